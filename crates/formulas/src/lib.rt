@@ -1,0 +1,3 @@
+// Formulas as steps: each different part once, an argument before what uses it, the formula itself last.
+pub mod examples;
+pub mod steps;

@@ -1,0 +1,5 @@
+pub mod Charge
+pub mod Depth
+pub mod Lists
+pub mod Measures
+pub mod Values

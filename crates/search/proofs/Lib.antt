@@ -1,0 +1,4 @@
+pub mod Lists
+pub mod Nest
+pub mod Offers
+pub mod Rules

@@ -1,0 +1,3 @@
+// Worked sheets, run through the library's calls.
+#[cfg(test)]
+mod sheets;

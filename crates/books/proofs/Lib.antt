@@ -1,0 +1,4 @@
+pub mod Firsts
+pub mod Held
+pub mod Sound
+pub mod Spellings

@@ -59,6 +59,19 @@ pub(crate) fn number(word: &[u8]) -> Option<u8>
     Some(n)
 }
 
+// The number that decimal digits write, or the greatest there is where it is greater.
+pub(crate) fn plain(word: &[u8]) -> Option<usize> {
+    if word.len() < 1 {
+        return None;
+    }
+    let mut n: usize = 0;
+    for b in word {
+        let digit = decimal_digit(*b)?;
+        n = n.saturating_mul(10).saturating_add(digit as usize);
+    }
+    Some(n)
+}
+
 // The byte that two hexadecimal digits write.
 fn byte(high: u8, low: u8) -> Option<u8> {
     Some(hex_digit(high)? * 16 + hex_digit(low)?)

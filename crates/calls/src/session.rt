@@ -5,9 +5,12 @@ use crate::expression::Choice;
 use crate::expression::set_of;
 use crate::forms::bytes;
 use crate::forms::number;
+use crate::forms::plain;
+use laws::law::Law;
 use operators::builtin::Builtin;
 use operators::named::Named;
 use operators::set::OperatorSet;
+use rows::channels::ChannelCount;
 use sets::any_set::AnySet;
 use sets::asking::AnySetNamed;
 use sets::asking::AnySetSet;
@@ -22,6 +25,10 @@ enum Verb {
     Arity,
     Band,
     Name,
+    Law,
+    Fill,
+    Reading,
+    Record,
     Unknown,
 }
 
@@ -37,6 +44,20 @@ fn verb_of(word: &[u8]) -> Verb {
     } else if word == b"name" {
         Verb::Name
     } else {
+        law_verb_of(word)
+    }
+}
+
+fn law_verb_of(word: &[u8]) -> Verb {
+    if word == b"law" {
+        Verb::Law
+    } else if word == b"fill" {
+        Verb::Fill
+    } else if word == b"reading" {
+        Verb::Reading
+    } else if word == b"record" {
+        Verb::Record
+    } else {
         Verb::Unknown
     }
 }
@@ -46,11 +67,15 @@ fn is_comment(line: &[u8]) -> bool {
     line.len() > 0 && line[0] == b'#'
 }
 
-// The calls so far leave a set in force.
+// The longest buffer that a call can ask for.
+const LONGEST: usize = 100_000;
+
+// The calls so far leave a set in force, and maybe a law.
 #[derive(Drop)]
 pub(crate) struct Session {
     heap: Global,
     set: AnySet,
+    law: Option<Law<AnySet>>,
 }
 
 impl Session {
@@ -59,6 +84,7 @@ impl Session {
         Session {
             heap,
             set: AnySet::Builtin(Builtin),
+            law: None,
         }
     }
 
@@ -69,7 +95,7 @@ impl Session {
                 self.set = set;
                 Ok(Answer::Done)
             }
-            Choice::Refused(refusal) => Ok(Answer::Refused(refusal)),
+            Choice::Refused(refusal) => Ok(Answer::Refused(refusal.number(), refusal.place())),
             Choice::Unknown => Ok(Answer::Unknown),
         }
     }
@@ -98,6 +124,68 @@ impl Session {
         }
     }
 
+    // law COUNT
+    fn begin_law(&mut self, count: &[u8]) -> Answer {
+        let Some(count) = plain(count) else {
+            return Answer::Unknown;
+        };
+        match ChannelCount::new(count) {
+            Ok(channels) => {
+                self.law = Some(Law::new(self.set, channels));
+                Answer::Done
+            }
+            Err(refusal) => Answer::Refused(refusal.number(), refusal.place()),
+        }
+    }
+
+    // fill HEX
+    fn fill(&mut self, record: &[u8]) -> Result<Answer, AllocError> {
+        let Some(record) = bytes(self.heap, record)? else {
+            return Ok(Answer::Unknown);
+        };
+        let Some(mut law) = self.law.take() else {
+            return Ok(Answer::Unsealed);
+        };
+        let filled = law.fill(&record);
+        self.law = Some(law);
+        match filled {
+            Ok(()) => Ok(Answer::Done),
+            Err(refusal) => Ok(Answer::Refused(refusal.number(), refusal.place())),
+        }
+    }
+
+    // reading HEX
+    fn reading(&self, reading: &[u8]) -> Result<Answer, AllocError> {
+        let Some(reading) = bytes(self.heap, reading)? else {
+            return Ok(Answer::Unknown);
+        };
+        let Some(law) = &self.law else {
+            return Ok(Answer::Unsealed);
+        };
+        match law.band(&reading) {
+            Ok(band) => Ok(Answer::Band(band)),
+            Err(refusal) => Ok(Answer::Refused(refusal.number(), refusal.place())),
+        }
+    }
+
+    // record SIZE
+    fn record(&self, size: &[u8]) -> Result<Answer, AllocError> {
+        let Some(size) = plain(size) else {
+            return Ok(Answer::Unknown);
+        };
+        if size > LONGEST {
+            return Ok(Answer::Unknown);
+        }
+        let Some(law) = &self.law else {
+            return Ok(Answer::Unsealed);
+        };
+        let mut buffer = vec![in self.heap; 0xaau8; size]?;
+        match law.record(&mut buffer) {
+            Ok(length) => Ok(Answer::Written(length, buffer)),
+            Err(refusal) => Ok(Answer::NotWritten(refusal.number(), refusal.place(), buffer)),
+        }
+    }
+
     // What a line's first word and the words after it answer.
     fn call(&mut self, first: &[u8], rest: &[&[u8]]) -> Result<Answer, AllocError> {
         match (verb_of(first), rest) {
@@ -106,6 +194,10 @@ impl Session {
             (Verb::Arity, [op]) => Ok(self.arity(op)),
             (Verb::Band, [op, args]) => self.band(op, args),
             (Verb::Name, [op]) => Ok(self.name(op)),
+            (Verb::Law, [count]) => Ok(self.begin_law(count)),
+            (Verb::Fill, [record]) => self.fill(record),
+            (Verb::Reading, [reading]) => self.reading(reading),
+            (Verb::Record, [size]) => self.record(size),
             _ => Ok(Answer::Unknown),
         }
     }

@@ -1,3 +1,4 @@
-pub mod Examples
+pub mod Formula
+pub mod Says
 pub mod Setting
 pub mod Steps

@@ -1,3 +1,2 @@
 // Formulas as steps: each different part once, an argument before what uses it, the formula itself last.
-pub mod examples;
 pub mod steps;

@@ -3,7 +3,10 @@ use Prim.Native.Nat.{ℕ, zero, suc, max, _+_, _≤_, _<_}
 use mathlib.Core.Path.{_≡_, refl, sym, ap, _∙_}
 use mathlib.Core.List.{List, [], _∷_, map-append}
 use native.Mathlib.Omega.{arith}
-use lib.ListN.{length, getD, take, replicate}
+use mathlib.Core.Bool.{true, _&&_}
+use lib.Dec.{leb, ltb}
+use lib.ListN.{length, getD, take, set, replicate}
+use Rattle.std.proofs.shelf.Tests.{and-parts, leb-true}
 use Rattle.std.specs.shelf.Lists.{sum, folded}
 use Rattle.std.proofs.shelf.Lists.{take-more, take-all}
 use Rattle.std.proofs.shelf.Sums.{folded-push}
@@ -11,7 +14,7 @@ use Rattle.measures.specs.Lists.{In, here, there}
 use Rattle.measures.specs.Measures.{NoHeavier, MeasureLaws}
 use Rattle.measures.specs.Values.{values}
 use Rattle.measures.specs.declared.weight.Weight.{Weight}
-use Rattle.measures.specs.Charge.{charge-at, charged, Charges}
+use Rattle.measures.specs.Charge.{charge-at, charged, chargeable, Charges}
 use Rattle.measures.specs.Depth.{depth}
 
 -- a fold that grows with its start and with each element
@@ -77,3 +80,17 @@ pub values-take : (n : ℕ) (ws : List Weight) → values (take n ws) ≡ take n
 values-take zero ws = refl
 values-take (suc n) [] = refl
 values-take (suc n) (w ∷ ws) = ap (λ vs. w .value ∷ vs) (values-take n ws)
+
+charges-set : (cs : List ℕ) (k v : ℕ) → Charges cs → 1 ≤ v → v ≤ 1000 → Charges (set cs k v)
+charges-set [] k v ok l m i = ok i
+charges-set (x ∷ cs) zero v ok l m zero = (l, m)
+charges-set (x ∷ cs) zero v ok l m (suc i) = ok (suc i)
+charges-set (x ∷ cs) (suc k) v ok l m zero = ok zero
+charges-set (x ∷ cs) (suc k) v ok l m (suc i) = charges-set cs k v (λ j. ok (suc j)) l m i
+
+-- a charge in range keeps every charge in range
+pub charges-recharged : (n : ℕ) (cs : List ℕ) (k v : ℕ) → Charges cs → true ≡ chargeable n k v → Charges (set cs k v)
+charges-recharged n cs k v ok e =
+    let a = and-parts (ltb k n) (leb 1 v && leb v 1000) (sym e) in
+    let b = and-parts (leb 1 v) (leb v 1000) (a .1) in
+    charges-set cs k v ok (leb-true 1 v (b .0)) (leb-true v 1000 (b .1))

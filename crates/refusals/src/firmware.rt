@@ -10,6 +10,8 @@ pub enum FirmwareRefusal {
     NotFound,
     // The buffer is too small.
     Room,
+    // A charge, an operator number or a channel out of range.
+    Charge,
 }
 
 impl FirmwareRefusal {
@@ -20,6 +22,7 @@ impl FirmwareRefusal {
             FirmwareRefusal::Settled => 7,
             FirmwareRefusal::NotFound => 8,
             FirmwareRefusal::Room => 9,
+            FirmwareRefusal::Charge => 22,
         }
     }
 
@@ -27,7 +30,10 @@ impl FirmwareRefusal {
         ensures { λ r. ⌜ r ≡ firmware-refusal self .1 ⌝ }
     {
         match self {
-            FirmwareRefusal::Settled | FirmwareRefusal::NotFound | FirmwareRefusal::Room => 0,
+            FirmwareRefusal::Settled
+            | FirmwareRefusal::NotFound
+            | FirmwareRefusal::Room
+            | FirmwareRefusal::Charge => 0,
         }
     }
 }

@@ -3,18 +3,25 @@ ghost use Prim.Native.Nat.{_≤_};
 ghost use lib.ListN.{length};
 ghost use Rattle.std.specs.declared.result.Result.the-variants.{Ok, Err};
 ghost use Rattle.refusals.specs.Numbers.{sheet-refusal};
-ghost use Rattle.rows.specs.Rows.{sound-bands, padded, judged, said, refused};
+ghost use Rattle.rows.specs.Rows.{band-or-mark, sound-bands, padded, judged, said, refused};
 ghost use Rattle.rows.specs.Read.{Read};
 use crate::channels::ChannelCount;
 use crate::row::Row;
 use refusals::sheet::SheetRefusal;
 
+// Whether a byte is a band or the mark for no reading.
+fn sound(byte: u8) -> bool
+    ensures { λ r. ⌜ r ≡ band-or-mark byte ⌝ }
+{
+    byte <= 15
+}
+
 // How many bands stand before the first byte above 15.
-fn sound_bands(bands: &[u8]) -> usize
+pub fn sound_bands(bands: &[u8]) -> usize
     ensures { λ r. ⌜ r ≡ sound-bands (now (bands .entry)) ⌝ }
 {
     for (i, b) in bands.iter().enumerate() {
-        if *b > 15 {
+        if !sound(*b) {
             return i;
         }
     }

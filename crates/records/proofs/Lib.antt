@@ -1,0 +1,3 @@
+pub mod Lawfulness
+pub mod Puts
+pub mod Roundtrip

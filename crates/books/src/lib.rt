@@ -1,4 +1,7 @@
 // Operator books: the operators that an owner writes as tables, and why a book is refused.
+
+#![tactic(auto)]
+
 pub mod book;
 mod entry;
 mod layout;

@@ -1,4 +1,7 @@
 // Works the library from a text: one call a line on standard input, one answer a line on standard output.
+
+#![tactic(auto)]
+
 mod answer;
 mod cuts;
 mod expression;

@@ -1,3 +1,5 @@
-pub mod Called
-pub mod Going
-pub mod Writing
+pub mod Calls
+pub mod Counts
+pub mod Listing
+pub mod Loops
+pub mod Seen

@@ -1,13 +1,43 @@
-ghost use Rattle.std.specs.Prelude.{◌≡◌};
-ghost use Rattle.histories.specs.History.{of_advance};
-ghost use Rattle.finder.specs.Whole.{result_seen, SameGround, Moves, Searches, LevelBy};
+ghost use Rattle.std.specs.Prelude.{◌≡◌, ℕ, ◌<◌, ◌≤◌};
+ghost use Rattle.search.specs.Machine.{Move, advance as advancing};
+ghost use Rattle.finder.specs.Whole.{whole, finder_seen, finder_setting, result_seen, ReadsAs, LevelBy};
+ghost use Rattle.finder.specs.View.{setting};
 
-use crate::state::{Answer, Finder, Search, State};
-use levels::problem::Problem;
-use levels::result::LevelResult;
+use crate::bank::Bank;
+use crate::problem::Problem;
+use crate::state::{Answer, Finder, LevelResult, Search, State};
 use measures::measure::Measure;
 use operators::set::OperatorSet;
 use refusals::firmware::FirmwareRefusal;
+
+impl<S: OperatorSet, M: Measure> Problem<S, M> {
+    // What an advance on an open sheet comes to, by its five rules. The bank is changed only where its places are filled.
+    fn next_level(&self, bank: &mut Bank) -> LevelResult
+        ensures { ReadsAs (S.OperatorSet.meaning self.now.set) (M.Measure.meaning self.now.measure) self.now.sheet bank.old result bank.new }
+    {
+        let limit = self.sheet.limit.get();
+        let weight = self.level(bank);
+        if weight > limit {
+            return LevelResult::Nothing;
+        }
+        let filled = bank.filled;
+        let found = self.build(bank, weight);
+        if let Some(candidate) = found {
+            bank.cut(filled);
+            let pair = self.counted(bank, candidate, weight);
+            return LevelResult::Fits(candidate, pair);
+        }
+        if weight == limit {
+            bank.cut(filled);
+            return LevelResult::Nothing;
+        }
+        if bank.over {
+            bank.cut(filled);
+            return LevelResult::TooMany;
+        }
+        LevelResult::Filled(weight, bank.filled)
+    }
+}
 
 impl Search {
     // A settled sheet costs no search.
@@ -27,7 +57,7 @@ impl Search {
         &mut self,
         problem: &Problem<S, M>,
     ) -> Result<Answer, FirmwareRefusal>
-        ensures { Searches (S.OperatorSet.meaning problem.now.set) (M.Measure.meaning problem.now.measure) problem.now.sheet self.old (result_seen result) self.new }
+        ensures { ◌≡◌ {A = Move} (record { answer = result_seen result; after = whole (S.OperatorSet.meaning problem.now.set) problem.now.sheet self.new.bank self.new.state }) (advancing (setting (S.OperatorSet.meaning problem.now.set) (M.Measure.meaning problem.now.measure) problem.now.sheet) (whole (S.OperatorSet.meaning problem.now.set) problem.now.sheet self.old.bank self.old.state)) }
     {
         let result = self.next_result(problem);
         match (self.state, result) {
@@ -44,10 +74,7 @@ impl Search {
                 Ok(Answer::Full)
             }
             (State::Open, LevelResult::Filled(weight, places)) => Ok(Answer::Level(weight, places)),
-            (State::Open, LevelResult::Settled) => Err(FirmwareRefusal::Settled),
-            (State::Found(_, _), _) => Err(FirmwareRefusal::Settled),
-            (State::None, _) => Err(FirmwareRefusal::Settled),
-            (State::Full, _) => Err(FirmwareRefusal::Settled),
+            (_, _) => Err(FirmwareRefusal::Settled),
         }
     }
 }
@@ -55,8 +82,8 @@ impl Search {
 impl<S: OperatorSet, M: Measure> Finder<S, M> {
     // Goes up by one level on an open sheet, and settles it where that ends the search.
     pub fn advance(&mut self) -> Result<Answer, FirmwareRefusal>
-        ensures kept { SameGround self.old self.new }
-        ensures moves { Moves (S.OperatorSet.meaning self.old.problem.set) (M.Measure.meaning self.old.problem.measure) self.old (of_advance (result_seen result)) self.new }
+        ensures kept { self.new.problem ≡ self.old.problem }
+        ensures moves { ◌≡◌ {A = Move} (record { answer = result_seen result; after = finder_seen (S.OperatorSet.meaning self.old.problem.set) self.new }) (advancing (finder_setting (S.OperatorSet.meaning self.old.problem.set) (M.Measure.meaning self.old.problem.measure) self.old) (finder_seen (S.OperatorSet.meaning self.old.problem.set) self.old)) }
     {
         self.search.advance(&self.problem)
     }

@@ -1,7 +1,18 @@
 // The finder: a sheet of rows, and the search level by level for the lightest formula that gives every wanted band.
+
+#![tactic(auto)]
+
+pub mod add;
 pub mod advance;
-pub mod changes;
+pub mod bank;
+pub mod build;
 pub mod formula;
+pub mod level;
+pub mod look;
 pub mod open;
+pub mod problem;
+pub mod reads;
+pub mod sheet;
 pub mod state;
-pub mod write;
+pub mod steps;
+pub mod work;

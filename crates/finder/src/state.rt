@@ -1,5 +1,5 @@
-use levels::bank::{Bank, Candidate};
-use levels::problem::Problem;
+use crate::bank::{Bank, Candidate};
+use crate::problem::Problem;
 use measures::measure::Measure;
 use operators::set::OperatorSet;
 
@@ -20,6 +20,16 @@ pub enum Answer {
     Found((u32, usize)),
     None,
     Full,
+}
+
+// What an advance comes to. A settled sheet is not searched.
+#[derive(Clone, Copy)]
+pub enum LevelResult {
+    Settled,
+    Nothing,
+    Fits(Candidate, (u32, usize)),
+    TooMany,
+    Filled(u32, usize),
 }
 
 // The places found so far, and how far the search has come.

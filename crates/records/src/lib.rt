@@ -1,6 +1,10 @@
 // Records: the bytes of a formula's steps, read and written.
+
+#![tactic(auto)]
+
 mod bytes;
 pub mod examples;
 pub mod read;
+pub mod rewrite;
 pub mod size;
 pub mod write;

@@ -11,7 +11,6 @@ abbrev pub sheet_refusal : SheetRefusal → ℕ × ℕ
 sheet_refusal sheet.Length = (1, 0)
 sheet_refusal (sheet.Band p) = (2, p)
 sheet_refusal sheet.Rows = (3, 0)
-sheet_refusal sheet.NoRow = (4, 0)
 sheet_refusal sheet.Limit = (5, 0)
 sheet_refusal sheet.Channels = (6, 0)
 

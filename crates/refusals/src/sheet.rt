@@ -10,8 +10,6 @@ pub enum SheetRefusal {
     Band(usize),
     // Sixteen rows stand.
     Rows,
-    // No such row, or none to strike.
-    NoRow,
     // A limit out of range.
     Limit,
     // More than eight channels.
@@ -26,7 +24,6 @@ impl SheetRefusal {
             SheetRefusal::Length => 1,
             SheetRefusal::Band(_) => 2,
             SheetRefusal::Rows => 3,
-            SheetRefusal::NoRow => 4,
             SheetRefusal::Limit => 5,
             SheetRefusal::Channels => 6,
         }
@@ -39,7 +36,6 @@ impl SheetRefusal {
             SheetRefusal::Band(place) => place,
             SheetRefusal::Length
             | SheetRefusal::Rows
-            | SheetRefusal::NoRow
             | SheetRefusal::Limit
             | SheetRefusal::Channels => 0,
         }

@@ -1,13 +1,12 @@
--- The finder over stored places: what each call answers and what the finder then holds.
-use Rattle.std.specs.Prelude.{◌≡◌, ℕ, ◌<◌, Bool, true, false, List, [], ◌∷◌, ◌++◌, length, Some, None, Option, slice_set}
-use Rattle.std.proofs.Math.Decide.{dec_lt, ℕ_discrete}
-use Rattle.rows.specs.Rows.{StandingRow}
+-- The finder over stored places: what a call answers and what the finder then holds.
+use Rattle.std.specs.Prelude.{◌≡◌, ℕ, ◌<◌, Bool, true, false, List, [], ◌∷◌, ◌++◌, length, Some, None, Option}
+use Rattle.std.proofs.Math.Decide.{dec_le, dec_lt, ℕ_discrete}
 use Rattle.formulas.specs.Setting.{Setting}
-use Rattle.records.specs.Bytes.{record_of}
-use Rattle.histories.specs.History.{Call, add, correct, strike, limit, advance, write, refused, accepted, done, Outcome, level, found, none, full, Event, of_add, of_correct, of_strike, of_limit, of_advance, of_write, Verdict, unsettled, as_found, as_none, as_full, row_of, but_last, refusal_due}
+use Rattle.rows.specs.Rows.{StandingRow, Judged, said, refused, judged}
+use Rattle.search.specs.Lists.{choose}
 use Rattle.search.specs.Places.{Candidate, Place}
 use Rattle.search.specs.Stored.{Held, level_at, built}
-use Rattle.search.specs.Marks.{steps_at, steps_of}
+use Rattle.search.specs.Marks.{steps_at}
 
 -- whether the sheet is open, or as what it has settled: Found with the candidate, its weight and its number of steps
 pub data Status : Type 0 where
@@ -22,82 +21,76 @@ pub record State : Type 0 where
   pub places : List Place
   pub status : Status
 
--- as what the sheet has settled; the steps are those that a write would write
-abbrev pub verdict_of : List Place → Status → Verdict
-verdict_of places is_open = unsettled
-verdict_of places (is_found t w s) = as_found w (length (steps_of places t))
-verdict_of places is_none = as_none
-verdict_of places is_full = as_full
-
--- an accepted change empties the bank and reopens the sheet
-abbrev pub reopened : List StandingRow → ℕ → State
-reopened rows bound = record { rows = rows; limit = bound; places = []; status = is_open }
-
--- no row, an empty bank, an open sheet
 abbrev pub opened : ℕ → State
-opened start = reopened [] start
+opened limit = record { rows = []; limit = limit; places = []; status = is_open }
 
--- ── an advance on an open sheet ──
+-- ── add ──
 
-pub record Advanced : Type 0 where
-  pub outcome : Outcome
+-- how many rows a sheet has at most
+abbrev pub most_rows : ℕ
+most_rows = 16
+
+-- a refusal's number and place if there is one, and what the finder then holds
+pub record Change : Type 0 where
+  pub refusal : Option (ℕ × ℕ)
   pub after : State
 
-abbrev pub settles_as : State → Status → Outcome → Advanced
-settles_as st s o = record { outcome = o; after = record { rows = st.rows; limit = st.limit; places = st.places; status = s } }
+abbrev pub turned_down : State → ℕ → ℕ → Change
+turned_down st n p = record { refusal = Some (n, p); after = st }
 
-abbrev pub filled_to : State → ℕ → List Place → Advanced
-filled_to st w places = record { outcome = level w (length places); after = record { rows = st.rows; limit = st.limit; places = places; status = is_open } }
+-- an accepted change empties the bank and reopens the sheet
+abbrev pub reopened : List StandingRow → ℕ → Change
+reopened rows limit = record { refusal = None; after = record { rows = rows; limit = limit; places = []; status = is_open } }
 
-abbrev pub by_room : State → ℕ → List Place → Bool → Advanced
+abbrev pub last_row : State → Judged → Change
+last_row st (said wanted bands) = reopened (st.rows ++ (record { wanted = wanted; bands = bands } ∷ [])) st.limit
+last_row st (refused n p) = turned_down st n p
+
+unfoldable pub add : Setting → State → List ℕ → Change
+add E st bytes = choose (dec_le most_rows (length st.rows)) (turned_down st 3 0) (last_row st (judged E.channels bytes))
+
+-- ── advance ──
+
+pub data Answer : Type 0 where
+  level : ℕ → ℕ → Answer
+  found : ℕ → ℕ → Answer
+  none : Answer
+  full : Answer
+  turned_away : ℕ → ℕ → Answer
+
+pub record Move : Type 0 where
+  pub answer : Answer
+  pub after : State
+
+abbrev pub settles_as : State → Status → Answer → Move
+settles_as st s a = record { answer = a; after = record { rows = st.rows; limit = st.limit; places = st.places; status = s } }
+
+abbrev pub filled_to : State → ℕ → List Place → Move
+filled_to st w places = record { answer = level w (length places); after = record { rows = st.rows; limit = st.limit; places = places; status = is_open } }
+
+abbrev pub by_room : State → ℕ → List Place → Bool → Move
 by_room st w places true = settles_as st is_full full
 by_room st w places false = filled_to st w places
 
 -- the five rules in their order: no level, or above the limit; a candidate of the level fits; the level is the limit; the new
 -- columns go past the bank; else the bank takes them
-abbrev pub by_rules : (st : State) (w : ℕ) → Dec (st.limit < w) → Option Candidate → Dec (w ≡ st.limit) → Held → Advanced
+abbrev pub by_rules : (st : State) (w : ℕ) → Dec (st.limit < w) → Option Candidate → Dec (w ≡ st.limit) → Held → Move
 by_rules st w (yes above) fit same h = settles_as st is_none none
 by_rules st w (no within) (Some t) same h = settles_as st (is_found t w (steps_at st.places t)) (found w (steps_at st.places t))
 by_rules st w (no within) None (yes same) h = settles_as st is_none none
 by_rules st w (no within) None (no other) h = by_room st w h.places h.over
 
-unfoldable pub advance_open : Setting → State → Advanced
+unfoldable pub advance_open : Setting → State → Move
 advance_open E st =
     let w = level_at E st.rows st.places in
     let b = built E st.rows w st.places in
     by_rules st w (dec_lt st.limit w) b.0 (ℕ_discrete w st.limit) b.1
 
--- ── write ──
+abbrev pub advance_by : Setting → State → Status → Move
+advance_by E st is_open = advance_open E st
+advance_by E st (is_found t w s) = record { answer = turned_away 7 0; after = st }
+advance_by E st is_none = record { answer = turned_away 7 0; after = st }
+advance_by E st is_full = record { answer = turned_away 7 0; after = st }
 
--- the record of the formula found
-abbrev pub found_record : List Place → Status → List ℕ
-found_record places is_open = []
-found_record places (is_found t w s) = record_of (steps_of places t)
-found_record places is_none = []
-found_record places is_full = []
-
--- ── the calls ──
-
--- a call with its answer, and what the finder then holds
-pub record Move : Type 0 where
-  pub event : Event
-  pub after : State
-
--- a refused call changes nothing; write changes nothing at all
-abbrev pub act : Setting → State → Call → Option (ℕ × ℕ) → Move
-act E st (add bytes) (Some r) = record { event = of_add bytes (refused r.0 r.1); after = st }
-act E st (add bytes) None = record { event = of_add bytes (accepted done); after = reopened (st.rows ++ (row_of bytes ∷ [])) st.limit }
-act E st (correct i bytes) (Some r) = record { event = of_correct i bytes (refused r.0 r.1); after = st }
-act E st (correct i bytes) None = record { event = of_correct i bytes (accepted done); after = reopened (slice_set st.rows i (row_of bytes)) st.limit }
-act E st strike (Some r) = record { event = of_strike (refused r.0 r.1); after = st }
-act E st strike None = record { event = of_strike (accepted done); after = reopened (but_last st.rows) st.limit }
-act E st (limit m) (Some r) = record { event = of_limit m (refused r.0 r.1); after = st }
-act E st (limit m) None = record { event = of_limit m (accepted done); after = reopened st.rows m }
-act E st advance (Some r) = record { event = of_advance (refused r.0 r.1); after = st }
-act E st advance None = let a = advance_open E st in record { event = of_advance (accepted a.outcome); after = a.after }
-act E st (write room) (Some r) = record { event = of_write room (refused r.0 r.1); after = st }
-act E st (write room) None = record { event = of_write room (accepted (found_record st.places st.status)); after = st }
-
--- a call is refused exactly where a refusal is due
-unfoldable pub step : Setting → State → Call → Move
-step E st c = act E st c (refusal_due E.channels st.rows (verdict_of st.places st.status) c)
+abbrev pub advance : Setting → State → Move
+advance E st = advance_by E st st.status

@@ -1,11 +1,7 @@
 -- The places that a candidate's formula uses, by marks, and the formula's steps: the used places in order, and it itself last.
 use Rattle.std.specs.Prelude.{ℕ, zero, suc, ◌+◌, Bool, true, false, cond, List, [], ◌∷◌, ◌++◌, map, length, get_or, take, replicate, slice_index_or, slice_set}
-use Rattle.operators.specs.Bands.{most_arguments}
-use Rattle.formulas.specs.Steps.{most_places}
-use Rattle.formulas.specs.declared.steps.Step.{Step}
-use Rattle.formulas.specs.declared.steps.Top.TheVariants.{Channel, Operator}
 use Rattle.search.specs.Places.{Candidate, of_channel, of_operator, Place}
-use Rattle.search.specs.Stored.{no_place}
+use Rattle.search.specs.Stored.{most_places, no_place}
 
 abbrev pub arguments_of : Candidate → List ℕ
 arguments_of (of_channel i) = []
@@ -48,18 +44,6 @@ marked_steps u [] ps = []
 marked_steps u (b ∷ v) [] = []
 marked_steps u (b ∷ v) (p ∷ ps) = cond b (renumbered u p.top ∷ marked_steps u v ps) (marked_steps u v ps)
 
--- the steps of a candidate's formula, still as candidates
-unfoldable pub numbered_steps : List Place → Candidate → List Candidate
-numbered_steps ps t = marked_steps (used_marks ps t) (used_marks ps t) ps ++ (renumbered (used_marks ps t) t ∷ [])
-
--- a step as it is kept: the arguments that are not used are 0
-abbrev pub filled_up : List ℕ → List ℕ
-filled_up is = take most_arguments (is ++ replicate most_arguments 0)
-
-abbrev pub as_step : Candidate → Step
-as_step (of_channel i) = record { top = Channel i; args = filled_up [] }
-as_step (of_operator k is) = record { top = Operator k; args = filled_up is }
-
 -- the steps of a candidate's formula
-abbrev pub steps_of : List Place → Candidate → List Step
-steps_of ps t = map as_step (numbered_steps ps t)
+unfoldable pub steps_of : List Place → Candidate → List Candidate
+steps_of ps t = marked_steps (used_marks ps t) (used_marks ps t) ps ++ (renumbered (used_marks ps t) t ∷ [])

@@ -3,11 +3,14 @@
 use Rattle.std.specs.Prelude.{◌≡◌, ℕ, ◌<◌, ◌≤◌, Bool, true, false, List, [], ◌∷◌, ◌++◌, map, length, get_or, Some, None, Option, slice_index_or}
 use Rattle.std.proofs.Math.Decide.{dec_lt, ℕ_discrete}
 use Rattle.measures.specs.Measures.{beyond}
-use Rattle.formulas.specs.Steps.{most_places}
 use Rattle.formulas.specs.Setting.{Setting}
 use Rattle.rows.specs.Rows.{StandingRow, wanted_of}
 use Rattle.search.specs.Lists.{In, choose, dec_in, dec_both, numbers, bands_discrete}
 use Rattle.search.specs.Places.{Candidate, of_channel, of_operator, Place, candidates, bands_at, weights_at}
+
+-- how many places the bank has
+abbrev pub most_places : ℕ
+most_places = 512
 
 -- what stands past the last row and the last place
 abbrev pub no_row : StandingRow

@@ -4,8 +4,9 @@ use measures::charge::Charge;
 use measures::depth::Depth;
 use measures::measure::Measure;
 use operators::builtin::Builtin;
+use refusals::sheet::SheetRefusal;
 use sheet_text::parse::parse;
-use sheet_text::refusal::{Fault, Layer, ParseError};
+use sheet_text::refusal::{Cause, Fault, ParseError};
 use sheet_text::sheet::{MeasureKind, SheetText};
 use std::alloc::{AllocError, Global};
 
@@ -24,17 +25,21 @@ pub(crate) fn answer_to(heap: Global, text: &[u8]) -> Result<Vec<u8>, AllocError
     }
 }
 
-fn layer_name(layer: Layer) -> &'static str {
-    match layer {
-        Layer::Text => "text",
-        Layer::Row => "row",
-        Layer::Finder => "finder",
+// The layer that a refusal comes from.
+fn layer(cause: Cause) -> &'static str {
+    match cause {
+        Cause::Text(_) => "text",
+        Cause::Sheet(SheetRefusal::Length) => "row",
+        Cause::Sheet(SheetRefusal::Band(_)) => "row",
+        Cause::Sheet(SheetRefusal::Rows) => "finder",
+        Cause::Sheet(SheetRefusal::Limit) => "finder",
+        Cause::Sheet(SheetRefusal::Channels) => "finder",
     }
 }
 
 // A refused sheet prints one line only.
 fn refused(heap: Global, fault: Fault) -> Result<Vec<u8>, AllocError> {
-    let layer = layer_name(fault.cause.layer());
+    let layer = layer(fault.cause);
     let number = fault.cause.number();
     let line = fault.spot.line;
     let word = fault.spot.word;

@@ -1,4 +1,7 @@
 // Reads a sheet text from standard input, searches for the lightest formula over the built-in operators, and prints the answer.
+
+#![tactic(auto)]
+
 mod answer;
 mod formula;
 #[cfg(test)]

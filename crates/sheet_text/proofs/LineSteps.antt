@@ -61,7 +61,6 @@ numbered_six : (e : SheetRefusal) → sheet_refusal e ≡ (6, 0) → e ≡ sheet
 numbered_six sheet.Length h = absurd (omega (arith, ap (λ x. x.0) h))
 numbered_six (sheet.Band p) h = absurd (omega (arith, ap (λ x. x.0) h))
 numbered_six sheet.Rows h = absurd (omega (arith, ap (λ x. x.0) h))
-numbered_six sheet.NoRow h = absurd (omega (arith, ap (λ x. x.0) h))
 numbered_six sheet.Limit h = absurd (omega (arith, ap (λ x. x.0) h))
 numbered_six sheet.Channels h = refl
 
@@ -107,8 +106,3 @@ pub parsed_from : (text : List ℕ) (s u : Lexer) (r : Result SheetText ParseErr
 parsed_from text s u (Ok sheet) b f h o k = let P : List ℕ → Type 0 = λ bytes. Sound bytes sheet in (b, subst P f.0 k, (s, u, f, h))
 parsed_from text s u (Err (error.Refused g)) b f h o k = inr (b, o, (s, u, f, h))
 parsed_from text s u (Err error.Memory) b f h o k = b
-
-pub parsed_sound : (text : List ℕ) (r : Result SheetText ParseError) → Parsed text r → IfOk r (Sound text)
-parsed_sound text (Ok sheet) p = p.1
-parsed_sound text (Err (error.Refused f)) p = tt
-parsed_sound text (Err error.Memory) p = tt

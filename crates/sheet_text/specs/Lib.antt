@@ -1,8 +1,6 @@
 pub mod Forms
-pub mod Layers
 pub mod Lines
 pub mod Refusals
-pub mod Said
 pub mod Sheets
 pub mod Spans
 pub mod Steps

@@ -32,7 +32,6 @@ abbrev pub row_spot : SheetRefusal → Spot → Spot
 row_spot sheet.Length head = head
 row_spot (sheet.Band p) head = record { line = head.line; word = p + 2 }
 row_spot sheet.Rows head = head
-row_spot sheet.NoRow head = head
 row_spot sheet.Limit head = head
 row_spot sheet.Channels head = head
 

@@ -1,4 +1,7 @@
 // Reads a sheet text into a sheet, or says its first fault with line and word.
+
+#![tactic(auto)]
+
 mod forms;
 pub mod lexer;
 mod names;

@@ -1,6 +1,5 @@
-ghost use Rattle.std.specs.Prelude.{◌≡◌, ◌<◌, ◌≤◌, length, IfOk};
-ghost use Rattle.sheet_text.specs.Said.{Reads};
-ghost use Rattle.sheet_text.specs.Sheets.{Sound};
+ghost use Rattle.std.specs.Prelude.{◌≡◌, ◌<◌, ◌≤◌, length};
+ghost use Rattle.sheet_text.specs.Sheets.{Parsed};
 
 use crate::lexer::{Lexer, Spot};
 use crate::parser::Parser;
@@ -10,8 +9,7 @@ use std::alloc::Global;
 
 // The sheet that a text of at most 4,096 bytes says, or the text's first fault.
 pub fn parse(heap: Global, text: &[u8]) -> Result<SheetText, ParseError>
-    ensures reads { Reads text.now result }
-    ensures sound { IfOk result (Sound text.now) }
+    ensures { Parsed text.now result }
 {
     if text.len() > 4096 {
         return Err(ParseError::Refused(Fault::text(

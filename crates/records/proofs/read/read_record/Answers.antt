@@ -20,11 +20,11 @@ module _ (m : SetMeaning) (laws : SetLaws m) (channels : ℕ) (bytes : List ℕ)
   )
 
   checked : (r : Result Steps RecordRefusal) → refused_by record_refusal r ≡ bytes_refusal m channels bytes → IfOk r (λ (s : Steps). listed s ≡ steps_of bytes) → IfOk r (λ (s : Steps). LawfulSteps m channels (listed s))
-  checked (Ok s) e same = subst (λ l. LawfulSteps m channels l) (sym same) (lawful_steps_of m channels bytes (read_is_lawful m laws channels bytes (sym e)))
+  checked (Ok s) e same = subst (λ l. LawfulSteps m channels l) (sym same) (lawful_steps_of m laws channels bytes (read_is_lawful m laws channels bytes (sym e)))
   checked (Err x) e same = tt
 
   one : (r : Result Steps RecordRefusal) → refused_by record_refusal r ≡ bytes_refusal m channels bytes → IfOk r (λ _. SaysOneFormula m channels bytes)
-  one (Ok s) e = lawful-says-one m channels bytes (read_is_lawful m laws channels bytes (sym e))
+  one (Ok s) e = lawful-says-one m laws channels bytes (read_is_lawful m laws channels bytes (sym e))
   one (Err x) e = tt
 
 pub returns : goal.returns

@@ -1,42 +1,49 @@
-use Rattle.std.proofs.Common.{refl, ap, ◌∙◌}
+use Rattle.std.proofs.Common.{ℕ, [], None, Err, Option, Result, refl, ap, ◌∙◌}
+use Rattle.refusals.specs.Numbers.{sheet_refusal, refused_by}
+use Rattle.refusals.specs.declared.sheet.SheetRefusal.{SheetRefusal}
+use Rattle.search.specs.Machine.{State, Change, is_open}
 use Rattle.std.proofs.lemmas.Result.{err_from_is_err_and}
-use Rattle.histories.specs.History.{Event, of_add, add, Reply, accepted, refused, done}
-use Rattle.search.specs.Machine.{State, Move, step, act}
-use Rattle.finder.specs.Whole.{finder_seen, finder_setting, status_seen}
-use Rattle.finder.proofs.Called.{reopens, stays}
+use Rattle.rows.specs.declared.limit.Limit.{Limit}
+use Rattle.finder.specs.View.{rows_seen}
+use Rattle.finder.specs.Whole.{finder_seen, finder_setting}
+use Rattle.finder.proofs.Calls.{add_done, add-refused, put_last}
 use Rattle.finder.proofs.state.Finder.add.Goals as goal
 
-abbrev moved : Event → State → Move
-moved e st = record { event = e; after = st }
+abbrev changed : Option (ℕ × ℕ) → State → Change
+changed o st = record { refusal = o; after = st }
+
+pub put-last-requires : goal.put-last-requires
+put-last-requires g c = c.in-ok-row.ensures.room
 
 pub returns : goal.returns
-unfolding step
 returns g c =
     let f = c.args.self.now in
     let m = g.S.OperatorSet.meaning f.problem.set in
     let E = finder_setting m (g.M.Measure.meaning f.problem.measure) f in
-    let t = c.add.new.self in
-    let changed = c.in-ok-add.ensures in
+    let st = finder_seen m f in
+    let s = f.problem.sheet in
+    let bytes = c.args.bytes.now in
+    let t = c.put-last.new.self in
+    let p = c.put-last.ensures in
     record {
-      kept = record { set = refl; measure = refl; channels = changed.channels };
+      kept = record { set = refl; measure = refl; channels = p.rest.0 };
       moves =
-          ap (moved (of_add c.args.bytes.now (accepted done))) (reopens m t _ _ changed.rows changed.limit c.reopen.new.self c.reopen.ensures)
-          ∙ ap (act E (finder_seen m f) (add c.args.bytes.now)) changed.refusal;
+          ap (λ (n : ℕ). changed None (record { rows = rows_seen t; limit = n; places = []; status = is_open })) (ap (λ (l : Limit). l.value) p.rest.1)
+          ∙ add_done E st s refl bytes refl c.in-ok-row.ensures.room c.in-ok-row.row c.in-ok-row.ensures.row (rows_seen t) (put_last s t c.in-ok-row.row c.in-ok-row.ensures.room p.rows p.count p.rest.0);
     }
 
-pub returns-in-err-add : goal.returns-in-err-add
-unfolding step
-returns-in-err-add g c =
+pub returns-in-err-row : goal.returns-in-err-row
+returns-in-err-row g c =
     let f = c.args.self.now in
     let m = g.S.OperatorSet.meaning f.problem.set in
     let E = finder_setting m (g.M.Measure.meaning f.problem.measure) f in
+    let st = finder_seen m f in
     let s = f.problem.sheet in
-    let t = c.add.new.self in
+    let bytes = c.args.bytes.now in
     let p = err_from_is_err_and c.from-residual.result c.from-residual.ensures.1 in
-    let changed = c.in-err-add.ensures in
-    rw (p.1, p.2) (record {
-      kept = record { set = refl; measure = refl; channels = changed.channels };
+    record {
+      kept = record { set = refl; measure = refl; channels = refl };
       moves =
-          ap (moved (of_add c.args.bytes.now _)) (stays m s t f.search.bank (status_seen m f.search.state) changed.rows changed.limit)
-          ∙ ap (act E (finder_seen m f) (add c.args.bytes.now)) changed.refusal;
-    })
+          ap (λ (r : Result (Unit {0}) SheetRefusal). changed (refused_by sheet_refusal r) st) (p.1 ∙ ap Err p.2)
+          ∙ add-refused E st s refl bytes refl c.in-err-row.field-0.0 c.in-err-row.ensures.row;
+    }

@@ -1,5 +1,0 @@
-// What the formula that steps say is worth: its band at a reading, its column over rows, its weight.
-pub mod band;
-pub mod column;
-mod table;
-pub mod weight;

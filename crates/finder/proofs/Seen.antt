@@ -1,0 +1,199 @@
+-- Reading the tables as they are seen.
+use Rattle.std.proofs.Common.{◌≡◌, ℕ, zero, suc, ◌+◌, ◌-◌, ◌<◌, ◌≤◌, true, List, [], ◌∷◌, ◌++◌, map, length, get_or, take, set, sym, refl, ap, ◌∙◌, subst, ap₂, arith}
+use native.Mathlib.Decide.{dec_lt}
+use Rattle.std.proofs.lemmas.List.{get_or-map, get_or-take, get_or_past, length-map, length-take, length-take-le, take_more_set, map_push, take_all, take_more_same, ext_get_or}
+use Rattle.operators.specs.Bands.{SetMeaning}
+use Rattle.measures.specs.Values.{values}
+use Rattle.measures.specs.declared.weight.Weight.{Weight}
+use Rattle.measures.specs.Weights.{values_take}
+use Rattle.formulas.specs.Setting.{Setting}
+use Rattle.formulas.specs.declared.steps.Top.TheVariants.{Channel, Operator}
+use Rattle.rows.specs.Rows.{StandingRow, wanted_of}
+use Rattle.rows.specs.Read.{row_seen}
+use Rattle.rows.specs.declared.row.Row.{Row}
+use Rattle.search.specs.Lists.{In, choose, numbers}
+use Rattle.search.specs.Places as places
+use Rattle.search.specs.Places.{bands_at, weights_at}
+use Rattle.search.specs.Stored.{Held, grown, no_place, no_row, columns_in, band_of, column_of, weight_of, last_weight}
+use Rattle.search.proofs.Lists.{choose-by, in_at, length-numbers, get_or_tabled}
+use Rattle.finder.specs.View.{place_seen, bank_seen, held_seen, rows_seen, made_of, candidate_seen}
+use Rattle.finder.specs.declared.bank.Candidate.{Candidate}
+use Rattle.finder.specs.declared.bank.Place.{Place}
+use Rattle.finder.specs.declared.bank.Bank.{Bank}
+use Rattle.finder.specs.declared.sheet.Sheet.{Sheet}
+
+-- what is seen at an index of a table's front
+module _ {A B : Type 0} (f : A → B) (xs : List A) (n : ℕ) where
+  pub front_at : (i : ℕ) (d : A) (e : B) → i < n → n ≤ length xs → get_or (map f (take n xs)) i e ≡ f (get_or xs i d)
+  front_at i d e l k = let h = length-take-le n xs k in get_or-map f (take n xs) i d e (omega arith) ∙ ap f (get_or-take n xs i d l)
+
+  pub front-past : (i : ℕ) (e : B) → n ≤ i → n ≤ length xs → get_or (map f (take n xs)) i e ≡ e
+  front-past i e l k = let h = length-take-le n xs k in let g = length-map (take n xs) f in get_or_past (map f (take n xs)) i e (omega arith)
+
+  pub front_length : n ≤ length xs → length (map f (take n xs)) ≡ n
+  front_length k = length-map (take n xs) f ∙ length-take-le n xs k
+
+abbrev All15 : List ℕ → Type 0
+All15 [] = Unit {0}
+All15 (x ∷ xs) = (x ≡ 15) × All15 xs
+
+same15 : (xs : List ℕ) (j : ℕ) → All15 xs → get_or xs j 15 ≡ 15
+same15 [] j a = refl
+same15 (x ∷ xs) zero a = a.0
+same15 (x ∷ xs) (suc j) a = same15 xs j a.1
+
+pub marks-at : (j : ℕ) → ◌≡◌ {A = ℕ} (get_or (15 ∷ 15 ∷ 15 ∷ 15 ∷ 15 ∷ 15 ∷ 15 ∷ 15 ∷ 15 ∷ 15 ∷ 15 ∷ 15 ∷ 15 ∷ 15 ∷ 15 ∷ 15 ∷ []) j 15) 15
+marks-at j = same15 (15 ∷ 15 ∷ 15 ∷ 15 ∷ 15 ∷ 15 ∷ 15 ∷ 15 ∷ 15 ∷ 15 ∷ 15 ∷ 15 ∷ 15 ∷ 15 ∷ 15 ∷ 15 ∷ []) j (refl, (refl, (refl, (refl, (refl, (refl, (refl, (refl, (refl, (refl, (refl, (refl, (refl, (refl, (refl, (refl, tt))))))))))))))))
+
+module _ (m : SetMeaning) (n : ℕ) where
+  pub seen_length : (b : Bank) → length (bank_seen m n b) ≡ b.filled
+  seen_length b = let k = b.few in let t = b.table in front_length (place_seen m n) b.places b.filled (omega arith)
+
+  pub pushed : (b : Bank) (p : Place) → b.filled < 512 → map (place_seen m n) (take (b.filled + 1) (set b.places b.filled p)) ≡ bank_seen m n b ++ (place_seen m n p ∷ [])
+  pushed b p l = let t = b.table in ap (map (place_seen m n)) (take_more_set b.places b.filled p (omega arith)) ∙ map_push (place_seen m n) (take b.filled b.places) p
+
+  -- a place more, and none
+  pub grows : (b : Bank) (p : places.Place) (ps : List places.Place) → b.filled < 512 → ps ≡ bank_seen m n b ++ (p ∷ []) → ◌≡◌ {A = Held} (record { places = ps; over = b.over }) (grown (held_seen m n b) p)
+  grows b p ps l e =
+      choose-by (λ (h : Held). record { places = ps; over = b.over } ≡ h) (dec_lt (length (bank_seen m n b)) 512) (λ q. ap (λ u. record { places = u; over = b.over }) e) (λ k. let s = seen_length b in absurd (k (omega arith)))
+
+  pub spills : (b : Bank) (p : places.Place) → 512 ≤ b.filled → ◌≡◌ {A = Held} (record { places = bank_seen m n b; over = true }) (grown (held_seen m n b) p)
+  spills b p l =
+      choose-by (λ (h : Held). record { places = bank_seen m n b; over = true } ≡ h) (dec_lt (length (bank_seen m n b)) 512) (λ q. let s = seen_length b in absurd (omega arith)) (λ k. refl)
+
+-- ── looking for a column ──
+
+map-map : {A B C : Type 0} (g : B → C) (f : A → B) (xs : List A) → map g (map f xs) ≡ map (λ x. g (f x)) xs
+map-map g f [] = refl
+map-map g f (x ∷ xs) = ap (λ l. g (f x) ∷ l) (map-map g f xs)
+
+pub some_of : {A : Type 0} (xs : List A) → 0 < length xs → A
+some_of [] l = absurd (omega arith)
+some_of (x ∷ xs) l = x
+
+module _ (m : SetMeaning) (n : ℕ) (b : Bank) where
+  pub columns_length : length (columns_in (bank_seen m n b)) ≡ b.filled
+  columns_length = length-map (bank_seen m n b) (λ (p : places.Place). p.column) ∙ seen_length m n b
+
+  pub column_seen : (i : ℕ) (d : Place) → i < b.filled → get_or (columns_in (bank_seen m n b)) i [] ≡ take n (get_or b.places i d).column
+  column_seen i d l =
+      let k = b.few in let t = b.table in let s = seen_length m n b in
+      get_or-map (λ (p : places.Place). p.column) (bank_seen m n b) i no_place [] (omega arith)
+      ∙ ap (λ (p : places.Place). p.column) (front_at (place_seen m n) b.places b.filled i d no_place l (omega arith))
+
+  pub not_seen : (x : List ℕ) → ((k : ℕ) (d : Place) → k < b.filled → take n (get_or b.places k d).column ≡ x → ⊥) → In x (columns_in (bank_seen m n b)) → ⊥
+  not_seen x none h =
+      let r = in_at x (columns_in (bank_seen m n b)) h in
+      let s = columns_length in
+      let l = r.1 in
+      let t = b.table in
+      let d = some_of b.places (omega arith) in
+      none r.0 d (omega arith) (sym (column_seen r.0 d (omega arith)) ∙ r.2 [])
+
+-- ── the wanted column ──
+
+pub length-wanted : (rs : List StandingRow) → length (wanted_of rs) ≡ length rs
+length-wanted [] = refl
+length-wanted (r ∷ rs) = ap suc (length-wanted rs)
+
+wanted-at : (rs : List StandingRow) (j d : ℕ) (r : StandingRow) → j < length rs → get_or (wanted_of rs) j d ≡ (get_or rs j r).wanted
+wanted-at [] j d r l = absurd (omega arith)
+wanted-at (x ∷ rs) zero d r l = refl
+wanted-at (x ∷ rs) (suc j) d r l = wanted-at rs j d r (omega arith)
+
+module _ (s : Sheet) where
+  pub rows-length : length (rows_seen s) ≡ s.count
+  rows-length = let k = s.few in let t = s.table in front_length (row_seen s.channels.value) s.rows s.count (omega arith)
+
+  pub wanted_seen : (j d : ℕ) (r : Row) → j < s.count → get_or (wanted_of (rows_seen s)) j d ≡ (get_or s.rows j r).wanted
+  wanted_seen j d r l =
+      let k = s.few in let t = s.table in let n = rows-length in
+      wanted-at (rows_seen s) j d no_row (omega arith) ∙ ap (λ (x : StandingRow). x.wanted) (front_at (row_seen s.channels.value) s.rows s.count j r no_row l (omega arith))
+
+  -- the wanted column up to j + 1
+  pub wanted-more : (column : List ℕ) (j : ℕ) → j < s.count → length column ≡ 16 → take j column ≡ take j (wanted_of (rows_seen s)) → get_or column j 0 ≡ get_or (wanted_of (rows_seen s)) j 0 → take (j + 1) column ≡ take (j + 1) (wanted_of (rows_seen s))
+  wanted-more column j l c inv e = let k = s.few in let n = rows-length in let w = length-wanted (rows_seen s) in take_more_same column (wanted_of (rows_seen s)) j 0 (omega arith) (omega arith) inv e
+
+  pub wanted-all : (column : List ℕ) (j : ℕ) → s.count ≤ j → j ≤ s.count → take j column ≡ take j (wanted_of (rows_seen s)) → take s.count column ≡ wanted_of (rows_seen s)
+  wanted-all column j l m inv = let n = rows-length in let w = length-wanted (rows_seen s) in let e : s.count ≡ j = omega arith in ap (λ i. take i column) e ∙ inv ∙ take_all j (wanted_of (rows_seen s)) (omega arith)
+
+  pub wanted_not : (column : List ℕ) (j : ℕ) → j < s.count → (get_or column j 0 ≡ get_or (wanted_of (rows_seen s)) j 0 → ⊥) → take s.count column ≡ wanted_of (rows_seen s) → ⊥
+  wanted_not column j l ne e = ne (sym (get_or-take s.count column j 0 l) ∙ ap (λ c. get_or c j 0) e)
+
+  pub row-past : (j i : ℕ) → j < s.count → s.channels.value ≤ i → get_or (get_or (rows_seen s) j no_row).bands i 15 ≡ 15
+  row-past j i l m =
+      let k = s.few in let t = s.table in
+      let d = some_of s.rows (omega arith) in
+      let e = length-take s.channels.value (get_or s.rows j d).bands in
+      ap (λ (x : StandingRow). get_or x.bands i 15) (front_at (row_seen s.channels.value) s.rows s.count j d no_row l (omega arith)) ∙ get_or_past (take s.channels.value (get_or s.rows j d).bands) i 15 (omega arith)
+
+-- ── a column from its bands ──
+
+pub tabled : (f : ℕ → ℕ) (n : ℕ) (r : List ℕ) → n ≤ length r → ((j : ℕ) → j < n → get_or r j 15 ≡ f j) → take n r ≡ map f (numbers n)
+tabled f n r l at =
+    let a = length-take-le n r l in
+    let b = length-map (numbers n) f ∙ length-numbers n in
+    ext_get_or 15 (take n r) (map f (numbers n)) (a ∙ sym b) (λ j k. get_or-take n r j 15 (subst (λ m. j < m) a k) ∙ at j (subst (λ m. j < m) a k) ∙ sym (get_or_tabled f n j 15 (subst (λ m. j < m) a k)))
+
+-- the arguments' bands and weights are the first ones of two
+pub bands_two : (ps : List places.Place) (j a x y : ℕ) → a ≤ 2 → bands_at ps no_place j (take a (x ∷ y ∷ [])) ≡ take a (get_or (get_or ps x no_place).column j 15 ∷ get_or (get_or ps y no_place).column j 15 ∷ [])
+bands_two ps j zero x y l = refl
+bands_two ps j (suc zero) x y l = refl
+bands_two ps j (suc (suc zero)) x y l = refl
+bands_two ps j (suc (suc (suc a))) x y l = absurd (omega arith)
+
+pub weights_two : (ps : List places.Place) (a x y : ℕ) → a ≤ 2 → weights_at ps no_place (take a (x ∷ y ∷ [])) ≡ take a ((get_or ps x no_place).weight ∷ (get_or ps y no_place).weight ∷ [])
+weights_two ps zero x y l = refl
+weights_two ps (suc zero) x y l = refl
+weights_two ps (suc (suc zero)) x y l = refl
+weights_two ps (suc (suc (suc a))) x y l = absurd (omega arith)
+
+two_items : (xs : List ℕ) → length xs ≡ 2 → get_or xs 0 0 ∷ get_or xs 1 0 ∷ [] ≡ xs
+two_items [] e = absurd (omega arith)
+two_items (x ∷ []) e = absurd (omega arith)
+two_items (x ∷ y ∷ []) e = refl
+two_items (x ∷ y ∷ z ∷ xs) e = absurd (omega arith)
+
+-- a candidate of an operator, by its two argument places
+pub operator_seen : (m : SetMeaning) (op : ℕ) (t : Candidate) → t.top ≡ Operator op → places.of_operator op (take (m.arity op) (get_or t.args 0 0 ∷ get_or t.args 1 0 ∷ [])) ≡ candidate_seen m t
+operator_seen m op t e = ap (λ xs. places.of_operator op (take (m.arity op) xs)) (two_items t.args t.two) ∙ ap (λ u. made_of m u t.args) (sym e)
+
+module _ (E : Setting) (s : Sheet) (ps : List places.Place) (r : List ℕ) (long : length r ≡ 16) where
+  column-by : (t : places.Candidate) → ((j : ℕ) → j < s.count → get_or r j 15 ≡ band_of E (rows_seen s) ps t j) → take s.count r ≡ column_of E (rows_seen s) ps t
+  unfolding column_of
+  column-by t at = let k = s.few in tabled (band_of E (rows_seen s) ps t) s.count r (omega arith) at ∙ ap (λ n. map (band_of E (rows_seen s) ps t) (numbers n)) (sym (rows-length s))
+
+  pub channel-right : (m : SetMeaning) (i : ℕ) (t : Candidate) → t.top ≡ Channel i → ((j : ℕ) → j < s.count → get_or r j 15 ≡ get_or (get_or (rows_seen s) j no_row).bands i 15) → take s.count r ≡ column_of E (rows_seen s) ps (candidate_seen m t)
+  channel-right m i t e at = column-by (places.of_channel i) at ∙ ap (λ u. column_of E (rows_seen s) ps (made_of m u t.args)) (sym e)
+
+  pub operator-right : (op : ℕ) (a b : List ℕ) (t : Candidate) → t.top ≡ Operator op → E.set.arity op ≤ 2 →
+      ((j : ℕ) → j < s.count → get_or a j 15 ≡ get_or (get_or ps (get_or t.args 0 0) no_place).column j 15) →
+      ((j : ℕ) → j < s.count → get_or b j 15 ≡ get_or (get_or ps (get_or t.args 1 0) no_place).column j 15) →
+      ((j : ℕ) → j < s.count → get_or r j 15 ≡ E.set.band op (take (E.set.arity op) (get_or a j 15 ∷ get_or b j 15 ∷ []))) →
+      take s.count r ≡ column_of E (rows_seen s) ps (candidate_seen E.set t)
+  operator-right op a b t e narrow ae be at =
+      let x = get_or t.args 0 0 in
+      let y = get_or t.args 1 0 in
+      column-by (places.of_operator op (take (E.set.arity op) (x ∷ y ∷ [])))
+      (λ j l. at j l ∙ ap₂ (λ u v. E.set.band op (take (E.set.arity op) (u ∷ v ∷ []))) (ae j l) (be j l) ∙ ap (E.set.band op) (sym (bands_two ps j (E.set.arity op) x y narrow)))
+      ∙ ap (column_of E (rows_seen s) ps) (operator_seen E.set op t e)
+
+pub weight_two : (E : Setting) (ps : List places.Place) (op : ℕ) (t : Candidate) → t.top ≡ Operator op → E.set.arity op ≤ 2 → (u v : Weight) (n : ℕ) → n ≡ E.set.arity op → u.value ≡ (get_or ps (get_or t.args 0 0) no_place).weight → v.value ≡ (get_or ps (get_or t.args 1 0) no_place).weight →
+    E.measure.operator op (values (take n (u ∷ v ∷ []))) ≡ weight_of E ps (candidate_seen E.set t)
+weight_two E ps op t e narrow u v n ne ue ve =
+    ap (E.measure.operator op) (values_take n (u ∷ v ∷ []) ∙ ap (λ n. take n (u.value ∷ v.value ∷ [])) ne ∙ ap₂ (λ a b. take (E.set.arity op) (a ∷ b ∷ [])) ue ve ∙ sym (weights_two ps (E.set.arity op) (get_or t.args 0 0) (get_or t.args 1 0) narrow))
+    ∙ ap (weight_of E ps) (operator_seen E.set op t e)
+
+-- ── the last place ──
+
+last_at : (ps : List places.Place) → 0 < length ps → last_weight ps ≡ (get_or ps (length ps - 1) no_place).weight
+last_at [] l = absurd (omega arith)
+last_at (p ∷ []) l = refl
+last_at (p ∷ q ∷ ps) l = last_at (q ∷ ps) (omega arith) ∙ (let e : suc (length (q ∷ ps) - 1) ≡ length (p ∷ q ∷ ps) - 1 = omega arith in ap (λ i. (get_or (p ∷ q ∷ ps) i no_place).weight) e)
+
+pub last_seen : (m : SetMeaning) (n : ℕ) (b : Bank) (d : Place) → 0 < b.filled → last_weight (bank_seen m n b) ≡ (get_or b.places (b.filled - 1) d).weight.value
+last_seen m n b d l =
+    let few = b.few in let t = b.table in let s = seen_length m n b in
+    last_at (bank_seen m n b) (omega arith)
+    ∙ ap (λ k. (get_or (bank_seen m n b) (k - 1) no_place).weight) s
+    ∙ ap (λ (p : places.Place). p.weight) (front_at (place_seen m n) b.places b.filled (b.filled - 1) d no_place (omega arith) (omega arith))

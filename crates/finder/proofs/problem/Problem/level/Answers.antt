@@ -1,0 +1,75 @@
+use Rattle.std.proofs.Common.{◌≡◌, List, [], ◌∷◌, ◌++◌, length, sym, refl, ap, ◌∙◌, arith}
+use Rattle.std.proofs.lemmas.List.{append-nil}
+use Rattle.measures.specs.Measures.{beyond}
+use Rattle.search.specs.Stored.{lowest}
+use Rattle.finder.specs.View.{setting, rows_seen, bank_seen}
+use Rattle.search.specs.Order.{channel, cell, row, block, span, up_from}
+use Rattle.search.proofs.Nest.{through_more, through_all}
+use Rattle.finder.proofs.Loops.{ordered}
+use Rattle.finder.proofs.problem.Problem.level.Given as given
+use Rattle.finder.proofs.problem.Problem.level.Goals as goal
+use Rattle.finder.proofs.problem.Problem.level.Goals.{After-turns-seconds}
+
+firsts : (g : given.Over) (c : After-turns-seconds g) → c.turns-firsts.result ≡ span ((g.S.OperatorSet.meaning c.args.self.now.set).arity c.loop-op.op) 0 c.args.bank.now.filled
+firsts g c = c.turns-firsts.ensures ∙ ap (λ a. span a 0 c.args.bank.now.filled) c.arity-arity.ensures
+
+seconds : (g : given.Over) (c : After-turns-seconds g) → c.turns-seconds.result ≡ span ((g.S.OperatorSet.meaning c.args.self.now.set).arity c.loop-op.op) 1 c.args.bank.now.filled
+seconds g c = c.turns-seconds.ensures ∙ ap (λ a. span a 1 c.args.bank.now.filled) c.arity-arity.ensures
+
+pub loop-channel-preserved : goal.loop-channel-preserved
+loop-channel-preserved g c =
+    let f = c.args.self.now in
+    let m = g.S.OperatorSet.meaning f.set in
+    let E = setting m (g.M.Measure.meaning f.measure) f.sheet in
+    let b = c.args.bank.now in
+    let F = lowest E (rows_seen f.sheet) (bank_seen m f.sheet.count b) in
+    through_more F channel f.sheet.channels.value _ _ _ c.loop-channel.channel (omega (arith, c.get-channels.ensures)) c.loop-channel.invariant
+    (λ rest. ap (λ v. F v rest) c.lowered-best.ensures)
+
+pub loop-second-preserved : goal.loop-second-preserved
+loop-second-preserved g c =
+    let f = c.args.self.now in
+    let m = g.S.OperatorSet.meaning f.set in
+    let E = setting m (g.M.Measure.meaning f.measure) f.sheet in
+    let b = c.args.bank.now in
+    let F = lowest E (rows_seen f.sheet) (bank_seen m f.sheet.count b) in
+    through_more F (cell (m.arity c.loop-op.op) c.loop-op.op c.loop-first.first) c.turns-seconds.result _ _ _ c.loop-second.second c.loop-second-test.true c.loop-second.invariant
+    (λ rest. ap (λ v. F v rest) c.lowered-best-in-loop-second.ensures)
+
+pub loop-first-preserved : goal.loop-first-preserved
+loop-first-preserved g c =
+    let f = c.args.self.now in
+    let m = g.S.OperatorSet.meaning f.set in
+    let E = setting m (g.M.Measure.meaning f.measure) f.sheet in
+    let b = c.args.bank.now in
+    let F = lowest E (rows_seen f.sheet) (bank_seen m f.sheet.count b) in
+    through_more F (row (m.arity c.loop-op.op) b.filled c.loop-op.op) c.turns-firsts.result _ _ _ c.loop-first.first c.loop-first-test.true c.loop-first.invariant
+    (through_all F (cell (m.arity c.loop-op.op) c.loop-op.op c.loop-first.first) c.turns-seconds.result _ (seconds g (goal.at.loop-first-preserved g c).After-turns-seconds) _ _ c.loop-second.second c.loop-second-test.false c.loop-second.invariant)
+
+pub loop-op-preserved : goal.loop-op-preserved
+loop-op-preserved g c =
+    let f = c.args.self.now in
+    let m = g.S.OperatorSet.meaning f.set in
+    let E = setting m (g.M.Measure.meaning f.measure) f.sheet in
+    let b = c.args.bank.now in
+    let F = lowest E (rows_seen f.sheet) (bank_seen m f.sheet.count b) in
+    through_more F (block m.arity b.filled) m.count _ _ _ c.loop-op.op (omega (arith, c.count-op-end.ensures)) c.loop-op.invariant
+    (through_all F (row (m.arity c.loop-op.op) b.filled c.loop-op.op) c.turns-firsts.result _ (firsts g (goal.at.loop-op-preserved g c).After-turns-seconds) _ _ c.loop-first.first c.loop-first-test.false c.loop-first.invariant)
+
+pub returns : goal.returns
+returns g c =
+    let f = c.args.self.now in
+    let m = g.S.OperatorSet.meaning f.set in
+    let E = setting m (g.M.Measure.meaning f.measure) f.sheet in
+    let b = c.args.bank.now in
+    let F = lowest E (rows_seen f.sheet) (bank_seen m f.sheet.count b) in
+    through_all F (block m.arity b.filled) m.count _ refl _ _ c.loop-op.op (omega (arith, c.count-op-end.ensures)) c.loop-op.invariant []
+    ∙ ap (F c.loop-channel.best) (append-nil (up_from (block m.arity b.filled) m.count 0))
+    ∙ through_all F channel f.sheet.channels.value _ refl _ _ c.loop-channel.channel (omega (arith, c.get-channels.ensures)) c.loop-channel.invariant _
+    ∙ ap (F beyond) (ordered m (g.M.Measure.meaning f.measure) f.sheet b (g.met.S.OperatorSet.lawful f.set).narrow)
+
+pub lowered-best-requires : goal.lowered-best-requires
+lowered-best-requires g c = let f = c.args.self.now in c.last-last.ensures (g.S.OperatorSet.meaning f.set) f.sheet.count
+
+pub lowered-best-requires-in-loop-second : goal.lowered-best-requires-in-loop-second
+lowered-best-requires-in-loop-second g c = let f = c.args.self.now in c.last-last.ensures (g.S.OperatorSet.meaning f.set) f.sheet.count

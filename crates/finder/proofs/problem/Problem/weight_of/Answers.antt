@@ -1,0 +1,20 @@
+use Rattle.std.proofs.Common.{◌≡◌, ℕ, ◌<◌, ◌≤◌, List, [], ◌∷◌, length, get_or, take, sym, refl, ap, ◌∙◌, ap₂, arith}
+use Rattle.std.proofs.lemmas.List.{length-take-le}
+use Rattle.measures.specs.Weights.{values_take}
+use Rattle.finder.specs.View.{setting, bank_seen}
+use Rattle.finder.proofs.Seen.{weight_two}
+use Rattle.finder.proofs.problem.Problem.weight_of.Goals as goal
+
+pub slice-bounds-args-end : goal.slice-bounds-args-end
+slice-bounds-args-end g c = let h = (g.met.S.OperatorSet.lawful c.args.self.now.set).narrow c.in-Operator.op in let e = c.arity-n.ensures in omega arith
+
+pub slice-bounds-operator-end : goal.slice-bounds-operator-end
+slice-bounds-operator-end g c = let h = (g.met.S.OperatorSet.lawful c.args.self.now.set).narrow c.in-Operator.op in let e = c.arity-n.ensures in sym (length-take-le c.arity-n.result _ (omega arith))
+
+pub returns-in-Operator : goal.returns-in-Operator
+returns-in-Operator g c =
+    let f = c.args.self.now in
+    let m = g.S.OperatorSet.meaning f.set in
+    c.operator.ensures
+    ∙ weight_two (setting m (g.M.Measure.meaning f.measure) f.sheet) (bank_seen m f.sheet.count c.args.bank.now) c.in-Operator.op c.args.candidate c.in-Operator.is
+    ((g.met.S.OperatorSet.lawful f.set).narrow c.in-Operator.op) c.weight.result c.weight-in-Operator.result c.arity-n.result c.arity-n.ensures (c.weight.ensures m f.sheet.count) (c.weight-in-Operator.ensures m f.sheet.count)

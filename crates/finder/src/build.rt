@@ -1,0 +1,91 @@
+ghost use Rattle.std.specs.Prelude.{◌≡◌, ℕ, ◌<◌, ◌≤◌};
+ghost use Rattle.search.specs.Stored.{offered, built};
+ghost use Rattle.search.specs.Order.{up_from, channel, block};
+ghost use Rattle.finder.specs.View.{rows_seen, bank_seen, held_seen, candidate_seen, option_seen, setting, Builds};
+
+use crate::bank::{Bank, Candidate, Place};
+use crate::level::turns;
+use crate::problem::Problem;
+use formulas::steps::Top;
+use measures::measure::Measure;
+use operators::set::OperatorSet;
+
+impl<S: OperatorSet, M: Measure> Problem<S, M> {
+    // Whether the candidate fits; one of the weight that does not is kept, if its column is new.
+    fn offer(&self, bank: &mut Bank, weight: u32, candidate: Candidate) -> bool
+        ensures { (result, held_seen (S.OperatorSet.meaning self.now.set) self.now.sheet.count bank.new) ≡ offered (setting (S.OperatorSet.meaning self.now.set) (M.Measure.meaning self.now.measure) self.now.sheet) (rows_seen self.now.sheet) weight (held_seen (S.OperatorSet.meaning self.now.set) self.now.sheet.count bank.old) (candidate_seen (S.OperatorSet.meaning self.now.set) candidate) }
+    {
+        let own = self.weight_of(bank, candidate);
+        if own.value() != weight {
+            return false;
+        }
+        let column = self.column_of(bank, candidate);
+        if self.sheet.wants(&column) {
+            return true;
+        }
+        match bank.place_of(&column, self.sheet.count) {
+            Some(_) => {}
+            None => bank.push(Place {
+                made_of: candidate,
+                column,
+                weight: own,
+            }),
+        }
+        false
+    }
+
+    // The first channel that fits, by number; the bank takes the new columns of those before it.
+    fn build_channels(&self, bank: &mut Bank, weight: u32) -> Option<Candidate>
+        ensures { Builds (setting (S.OperatorSet.meaning self.now.set) (M.Measure.meaning self.now.measure) self.now.sheet) (rows_seen self.now.sheet) weight (held_seen (S.OperatorSet.meaning self.now.set) self.now.sheet.count bank.old) (up_from channel self.now.sheet.channels.value 0) (option_seen (S.OperatorSet.meaning self.now.set) result) (held_seen (S.OperatorSet.meaning self.now.set) self.now.sheet.count bank.new) }
+    {
+        let channels = self.sheet.channels.get();
+        for channel in 0..channels {
+            let candidate = Candidate {
+                top: Top::Channel(channel),
+                args: [0, 0],
+            };
+            if self.offer(bank, weight, candidate) {
+                return Some(candidate);
+            }
+        }
+        None
+    }
+
+    // The first operator that fits, over the first `places` places in build order; the bank takes the new columns of those
+    // before it.
+    fn build_operators(&self, bank: &mut Bank, weight: u32, places: usize) -> Option<Candidate>
+        ensures { Builds (setting (S.OperatorSet.meaning self.now.set) (M.Measure.meaning self.now.measure) self.now.sheet) (rows_seen self.now.sheet) weight (held_seen (S.OperatorSet.meaning self.now.set) self.now.sheet.count bank.old) (up_from (block (S.OperatorSet.meaning self.now.set).arity places) (S.OperatorSet.meaning self.now.set).count 0) (option_seen (S.OperatorSet.meaning self.now.set) result) (held_seen (S.OperatorSet.meaning self.now.set) self.now.sheet.count bank.new) }
+    {
+        let mut found = None;
+        'operators: for op in 0..self.set.count() {
+            let arity = self.set.arity(op);
+            let firsts = turns(arity, 0, places);
+            let seconds = turns(arity, 1, places);
+            for first in 0..firsts {
+                for second in 0..seconds {
+                    let candidate = Candidate {
+                        top: Top::Operator(op),
+                        args: [first, second],
+                    };
+                    if self.offer(bank, weight, candidate) {
+                        found = Some(candidate);
+                        break 'operators;
+                    }
+                }
+            }
+        }
+        found
+    }
+
+    // The first candidate of the weight that fits, in build order; the bank takes the new columns of those before it.
+    pub(crate) fn build(&self, bank: &mut Bank, weight: u32) -> Option<Candidate>
+        ensures { (option_seen (S.OperatorSet.meaning self.now.set) result, held_seen (S.OperatorSet.meaning self.now.set) self.now.sheet.count bank.new) ≡ built (setting (S.OperatorSet.meaning self.now.set) (M.Measure.meaning self.now.measure) self.now.sheet) (rows_seen self.now.sheet) weight (bank_seen (S.OperatorSet.meaning self.now.set) self.now.sheet.count bank.old) }
+    {
+        let places = bank.filled;
+        bank.over = false;
+        match self.build_channels(bank, weight) {
+            Some(candidate) => Some(candidate),
+            None => self.build_operators(bank, weight, places),
+        }
+    }
+}

@@ -1,0 +1,75 @@
+ghost use Rattle.std.specs.Prelude.{◌≡◌, ℕ, ◌<◌, ◌≤◌, get_or, take, slice_index_or};
+ghost use Rattle.operators.specs.Bands.{SetMeaning};
+ghost use Rattle.search.specs.Stored.{no_place, columns_in, grown, last_weight, Looked};
+ghost use Rattle.finder.specs.View.{bank_seen, held_seen, place_seen};
+
+use crate::bank::{Bank, Place};
+use measures::weight::Weight;
+
+impl Bank {
+    // The column at the place `i`, all marks where it is not filled.
+    pub(crate) fn column(&self, i: usize) -> [u8; 16]
+        ensures { (m : SetMeaning) (n j : ℕ) → j < n → slice_index_or result j 15 ≡ slice_index_or (get_or (bank_seen m n self.now) i no_place).column j 15 }
+    {
+        if i < self.filled {
+            self.places[i].column
+        } else {
+            [15; 16]
+        }
+    }
+
+    // The weight at the place `i`, 1 where it is not filled.
+    pub(crate) fn weight(&self, i: usize) -> Weight
+        ensures { (m : SetMeaning) (n : ℕ) → result.value ≡ (get_or (bank_seen m n self.now) i no_place).weight }
+    {
+        if i < self.filled {
+            self.places[i].weight
+        } else {
+            Weight::one()
+        }
+    }
+
+    // The weight at the last place, 0 where there is none.
+    pub(crate) fn last(&self) -> u32
+        ensures { (m : SetMeaning) (n : ℕ) → result ≡ last_weight (bank_seen m n self.now) }
+    {
+        if self.filled == 0 {
+            0
+        } else {
+            self.places[self.filled - 1].weight.value()
+        }
+    }
+
+    // The place of a column of `n` bands, if it has one.
+    pub(crate) fn place_of(&self, column: &[u8; 16], n: usize) -> Option<usize>
+        requires { n ≤ 16 }
+        ensures { (m : SetMeaning) → Looked (columns_in (bank_seen m n self.now)) (take n column.now) result }
+    {
+        for i in 0..self.filled {
+            if self.places[i].column[..n] == column[..n] {
+                return Some(i);
+            }
+        }
+        None
+    }
+
+    // One place more, if there is room.
+    pub(crate) fn push(&mut self, place: Place)
+        ensures { (m : SetMeaning) (n : ℕ) → held_seen m n self.new ≡ grown (held_seen m n self.old) (place_seen m n place) }
+    {
+        if self.filled < 512 {
+            self.places[self.filled] = place;
+            self.filled += 1;
+        } else {
+            self.over = true;
+        }
+    }
+
+    // Takes away the places from `filled` on.
+    pub(crate) fn cut(&mut self, filled: usize)
+        requires { filled ≤ self.old.filled }
+        ensures { (m : SetMeaning) (n : ℕ) → bank_seen m n self.new ≡ take filled (bank_seen m n self.old) }
+    {
+        self.filled = filled;
+    }
+}

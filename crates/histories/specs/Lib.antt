@@ -1,4 +1,0 @@
-pub mod Answers
-pub mod Determined
-pub mod History
-pub mod Levels

@@ -1,1 +1,0 @@
-// What is promised of every list of calls to a finder, as definitions; there is no code here.

@@ -1,4 +1,0 @@
-pub mod Counts
-pub mod Listing
-pub mod Loops
-pub mod Seen

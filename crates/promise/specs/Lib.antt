@@ -1,3 +1,0 @@
-pub mod Carried
-pub mod Laws
-pub mod Theorem

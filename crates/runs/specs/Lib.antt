@@ -1,3 +1,0 @@
-pub mod Rooms
-pub mod Steps
-pub mod Told

@@ -5,3 +5,4 @@ pub mod Names
 pub mod Pair
 pub mod Laws
 pub mod Masks
+pub mod Pairs

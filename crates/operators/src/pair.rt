@@ -1,6 +1,6 @@
 ghost use Rattle.std.specs.Prelude.{◌≡◌, ℕ, List};
 ghost use Rattle.operators.specs.Pair.{paired, pair_names};
-ghost use Rattle.std.proofs.Common.{rules};
+ghost use Rattle.operators.specs.Pairs.{paired_laws, paired_spelt};
 
 use crate::named::Named;
 use crate::set::{MARK, OperatorSet};
@@ -15,7 +15,7 @@ pub struct Pair<A, B> {
 impl<A: OperatorSet, B: OperatorSet> OperatorSet for Pair<A, B> {
     ghost meaning = { λ p. paired (A.OperatorSet.meaning p.first) (B.OperatorSet.meaning p.second) };
 
-    ghost lawful = { Prim.search rules };
+    ghost lawful = { λ p. paired_laws (A.OperatorSet.meaning p.first) (B.OperatorSet.meaning p.second) (A.OperatorSet.lawful p.first) (B.OperatorSet.lawful p.second) };
 
     fn count(&self) -> u8 {
         (self.first.count() + self.second.count()).min(64)
@@ -47,7 +47,7 @@ impl<A: OperatorSet, B: OperatorSet> OperatorSet for Pair<A, B> {
 impl<A: Named, B: Named> Named for Pair<A, B> {
     ghost names = { λ p. pair_names (A.OperatorSet.meaning p.first) (B.OperatorSet.meaning p.second) (A.Named.names p.first) (B.Named.names p.second) };
 
-    ghost spelt = { Prim.search rules };
+    ghost spelt = { λ p. paired_spelt (A.OperatorSet.meaning p.first) (B.OperatorSet.meaning p.second) (A.Named.names p.first) (B.Named.names p.second) (A.OperatorSet.lawful p.first) (A.Named.spelt p.first) (B.Named.spelt p.second) };
 
     fn name(&self, op: u8) -> [u8; 4] {
         let first = self.first.count();

@@ -2,20 +2,20 @@ use Rattle.std.proofs.Common.{◌≡◌, Some, None, sym, ◌∙◌, arith}
 use Rattle.calls.proofs.Digits.{decimal-more, decimal-all, decimal-past, decimal_on, number_is}
 use Rattle.calls.proofs.forms.number.Goals as goal
 
-pub returns-in-err-digit : goal.returns-in-err-digit
-returns-in-err-digit c =
+pub returns-in_err-digit : goal.returns-in_err-digit
+returns-in_err-digit c =
     c.from-residual.ensures
     ∙ number_is c.args.word.now None (omega arith)
-    (sym c.loop-b.invariant.0 ∙ decimal-more c.args.word.now c.loop-b.b-index c.loop-b.n None (omega arith) c.in-err-digit.ensures)
+    (sym c.loop-b.invariant.0 ∙ decimal-more c.args.word.now c.loop-b.b-index c.loop-b.n None (omega arith) c.in_err-digit.ensures)
 
 pub returns-then-next-gt255 : goal.returns-then-next-gt255
 returns-then-next-gt255 c =
     number_is c.args.word.now None (omega arith)
-    (sym c.loop-b.invariant.0 ∙ decimal-past c.args.word.now c.loop-b.b-index c.loop-b.n c.in-ok-digit.digit (omega arith) c.in-ok-digit.ensures (omega arith))
+    (sym c.loop-b.invariant.0 ∙ decimal-past c.args.word.now c.loop-b.b-index c.loop-b.n c.in_ok-digit.digit (omega arith) c.in_ok-digit.ensures (omega arith))
 
 pub loop-b-preserved : goal.loop-b-preserved
 loop-b-preserved c = (
-  sym (decimal_on c.args.word.now c.loop-b.b-index c.loop-b.n c.in-ok-digit.digit (omega arith) c.in-ok-digit.ensures (omega arith)) ∙ c.loop-b.invariant.0,
+  sym (decimal_on c.args.word.now c.loop-b.b-index c.loop-b.n c.in_ok-digit.digit (omega arith) c.in_ok-digit.ensures (omega arith)) ∙ c.loop-b.invariant.0,
   omega arith,
 )
 

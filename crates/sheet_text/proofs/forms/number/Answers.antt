@@ -9,11 +9,11 @@ returns-then-not-is-digit c =
     number-none c.args.most c.args.word.now
     (omega (arith, c.loop-i.invariant.0, prefix_len-drop_no digit c.args.word.now c.loop-i.i 0 (omega arith) (sym c.if-not-is-digit.ensures)))
 
-pub overflow-mul-n : goal.overflow-mul-n
-overflow-mul-n c = let h = tens_bound _ _ c.loop-i.invariant.2 (omega arith) in omega arith
+pub overflow_mul-n : goal.overflow_mul-n
+overflow_mul-n c = let h = tens_bound _ _ c.loop-i.invariant.2 (omega arith) in omega arith
 
-pub overflow-add-n : goal.overflow-add-n
-overflow-add-n c =
+pub overflow_add-n : goal.overflow_add-n
+overflow_add-n c =
     let h = tens_bound _ _ c.loop-i.invariant.2 (omega arith) in
     let k = digit_value (get_or c.args.word.now c.loop-i.i 0) (sym c.if-not-is-digit.ensures) in
     omega arith

@@ -6,13 +6,13 @@ use Rattle.sheet_text.proofs.Repeats.{nowhere, repeats-here, repeats_on, repeats
 use Rattle.sheet_text.proofs.names.is_repeated.Goals as goal
 use Rattle.sheet_text.proofs.names.is_repeated.Goals.{After-same}
 
-pub overflow-add-span : goal.overflow-add-span
-overflow-add-span c =
+pub overflow_add-span : goal.overflow_add-span
+overflow_add-span c =
     let h = All-get_or (InText (length c.args.text.now)) c.args.names.now c.loop-span.span-index nowhere (omega arith) c.requires in
     omega arith
 
-pub slice-bounds-same-end : goal.slice-bounds-same-end
-slice-bounds-same-end c =
+pub slice_bounds-same-end : goal.slice_bounds-same-end
+slice_bounds-same-end c =
     let h = All-get_or (InText (length c.args.text.now)) c.args.names.now c.loop-span.span-index nowhere (omega arith) c.requires in
     omega arith
 

@@ -4,11 +4,11 @@ use Rattle.operators.specs.Names.{letter}
 use Rattle.books.specs.Spellings.{begun}
 use Rattle.books.proofs.book.check.begins.Goals as goal
 
-pub slice-bounds-spaces-only-count : goal.slice-bounds-spaces-only-count
-slice-bounds-spaces-only-count c = omega (arith, prefix_len-le-length letter c.args.bytes.now)
+pub slice_bounds-spaces-only-count : goal.slice_bounds-spaces-only-count
+slice_bounds-spaces-only-count c = omega (arith, prefix_len-le-length letter c.args.bytes.now)
 
-pub slice-bounds-spaces-only-start : goal.slice-bounds-spaces-only-start
-slice-bounds-spaces-only-start c = omega (arith, prefix_len-le-length letter c.args.bytes.now)
+pub slice_bounds-spaces-only-start : goal.slice_bounds-spaces-only-start
+slice_bounds-spaces-only-start c = omega (arith, prefix_len-le-length letter c.args.bytes.now)
 
 pub returns-then-n-ge1 : goal.returns-then-n-ge1
 returns-then-n-ge1 c =

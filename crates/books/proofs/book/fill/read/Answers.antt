@@ -4,8 +4,8 @@ use Rattle.books.specs.Refusal.{begins_name}
 use Rattle.books.proofs.Sound.{sound, name_ok, arity_ok, table_ok}
 use Rattle.books.proofs.book.fill.read.Goals as goal
 
-pub invariant-of-result : goal.invariant-of-result
-invariant-of-result c =
+pub invariant_of-result : goal.invariant_of-result
+invariant_of-result c =
     let s = sound c.args.book.now c.requires.sound in
     let n = name_ok c.args.book.now c.args.op s c.requires.within in
     let a = arity_ok c.args.book.now c.args.op s c.requires.within in

@@ -88,7 +88,7 @@ returns-then-weight-limit-2 g c =
     let st = whole m f.sheet b Open in
     let w = c.level-weight.result in
     ap (λ (ps : List places.Place). move_to none (record { rows = st.rows; limit = st.limit; places = ps; status = is_none })) (c.cut-then-weight-limit-2.ensures m n ∙ kept-places g (goal.at.returns-then-weight-limit-2 g c).After-build-found)
-    ∙ rule_limit E st w c.level-weight.ensures (omega (arith, c.get-limit.ensures)) (held_seen m n c.build-found.new.bank) c.in-default.ensures (c.if-weight-limit-2.true ∙ c.get-limit.ensures)
+    ∙ rule_limit E st w c.level-weight.ensures (omega (arith, c.get-limit.ensures)) (held_seen m n c.build-found.new.bank) c.in_default.ensures (c.if-weight-limit-2.true ∙ c.get-limit.ensures)
 
 pub returns-then-bank : goal.returns-then-bank
 returns-then-bank g c =
@@ -101,7 +101,7 @@ returns-then-bank g c =
     let w = c.level-weight.result in
     ap (λ (ps : List places.Place). move_to full (record { rows = st.rows; limit = st.limit; places = ps; status = is_full })) (c.cut-then-bank.ensures m n ∙ kept-places g (goal.at.returns-then-bank g c).After-build-found)
     ∙ ap (by_room st w (bank_seen m n c.build-found.new.bank)) (sym c.if-bank.true)
-    ∙ rule_room E st w c.level-weight.ensures (omega (arith, c.get-limit.ensures)) (held_seen m n c.build-found.new.bank) c.in-default.ensures (λ e. c.if-weight-limit-2.false (e ∙ sym c.get-limit.ensures))
+    ∙ rule_room E st w c.level-weight.ensures (omega (arith, c.get-limit.ensures)) (held_seen m n c.build-found.new.bank) c.in_default.ensures (λ e. c.if-weight-limit-2.false (e ∙ sym c.get-limit.ensures))
 
 pub returns : goal.returns
 returns g c =
@@ -114,4 +114,4 @@ returns g c =
     let w = c.level-weight.result in
     ap (λ (k : ℕ). move_to (level w k) (record { rows = st.rows; limit = st.limit; places = bank_seen m n c.build-found.new.bank; status = is_open })) (sym (seen_length m n c.build-found.new.bank))
     ∙ ap (by_room st w (bank_seen m n c.build-found.new.bank)) (sym c.if-bank.false)
-    ∙ rule_room E st w c.level-weight.ensures (omega (arith, c.get-limit.ensures)) (held_seen m n c.build-found.new.bank) c.in-default.ensures (λ e. c.if-weight-limit-2.false (e ∙ sym c.get-limit.ensures))
+    ∙ rule_room E st w c.level-weight.ensures (omega (arith, c.get-limit.ensures)) (held_seen m n c.build-found.new.bank) c.in_default.ensures (λ e. c.if-weight-limit-2.false (e ∙ sym c.get-limit.ensures))

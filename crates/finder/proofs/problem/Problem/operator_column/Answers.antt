@@ -2,11 +2,11 @@ use Rattle.std.proofs.Common.{◌≡◌, ℕ, ◌<◌, ◌≤◌, ◌≢◌, Lis
 use Rattle.std.proofs.lemmas.List.{length-set, length-take-le, get_or-set_same, get_or-set_other, get_or_default}
 use Rattle.finder.proofs.problem.Problem.operator_column.Goals as goal
 
-pub slice-bounds-args-end : goal.slice-bounds-args-end
-slice-bounds-args-end g c = let h = (g.met.S.OperatorSet.lawful c.args.self.now.set).narrow c.args.op in let e = c.arity-n.ensures in omega arith
+pub slice_bounds-args-end : goal.slice_bounds-args-end
+slice_bounds-args-end g c = let h = (g.met.S.OperatorSet.lawful c.args.self.now.set).narrow c.args.op in let e = c.arity-n.ensures in omega arith
 
-pub slice-bounds-band-end : goal.slice-bounds-band-end
-slice-bounds-band-end g c = let h = (g.met.S.OperatorSet.lawful c.args.self.now.set).narrow c.args.op in let e = c.arity-n.ensures in sym (length-take-le c.arity-n.result _ (omega arith))
+pub slice_bounds-band-end : goal.slice_bounds-band-end
+slice_bounds-band-end g c = let h = (g.met.S.OperatorSet.lawful c.args.self.now.set).narrow c.args.op in let e = c.arity-n.ensures in sym (length-take-le c.arity-n.result _ (omega arith))
 
 pub loop-j-preserved : goal.loop-j-preserved
 loop-j-preserved g c =

@@ -5,11 +5,11 @@ use Rattle.finder.specs.View.{setting, bank_seen}
 use Rattle.finder.proofs.Seen.{weight_two}
 use Rattle.finder.proofs.problem.Problem.weight_of.Goals as goal
 
-pub slice-bounds-args-end : goal.slice-bounds-args-end
-slice-bounds-args-end g c = let h = (g.met.S.OperatorSet.lawful c.args.self.now.set).narrow c.in-Operator.op in let e = c.arity-n.ensures in omega arith
+pub slice_bounds-args-end : goal.slice_bounds-args-end
+slice_bounds-args-end g c = let h = (g.met.S.OperatorSet.lawful c.args.self.now.set).narrow c.in-Operator.op in let e = c.arity-n.ensures in omega arith
 
-pub slice-bounds-operator-end : goal.slice-bounds-operator-end
-slice-bounds-operator-end g c = let h = (g.met.S.OperatorSet.lawful c.args.self.now.set).narrow c.in-Operator.op in let e = c.arity-n.ensures in sym (length-take-le c.arity-n.result _ (omega arith))
+pub slice_bounds-operator-end : goal.slice_bounds-operator-end
+slice_bounds-operator-end g c = let h = (g.met.S.OperatorSet.lawful c.args.self.now.set).narrow c.in-Operator.op in let e = c.arity-n.ensures in sym (length-take-le c.arity-n.result _ (omega arith))
 
 pub returns-in-Operator : goal.returns-in-Operator
 returns-in-Operator g c =

@@ -13,7 +13,7 @@ abbrev changed : Option (ℕ × ℕ) → State → Change
 changed o st = record { refusal = o; after = st }
 
 pub put-last-requires : goal.put-last-requires
-put-last-requires g c = c.in-ok-row.ensures.room
+put-last-requires g c = c.in_ok-row.ensures.room
 
 pub returns : goal.returns
 returns g c =
@@ -29,11 +29,11 @@ returns g c =
       kept = record { set = refl; measure = refl; channels = p.rest.0 };
       moves =
           ap (λ (n : ℕ). changed None (record { rows = rows_seen t; limit = n; places = []; status = is_open })) (ap (λ (l : Limit). l.value) p.rest.1)
-          ∙ add_done E st s refl bytes refl c.in-ok-row.ensures.room c.in-ok-row.row c.in-ok-row.ensures.row (rows_seen t) (put_last s t c.in-ok-row.row c.in-ok-row.ensures.room p.rows p.count p.rest.0);
+          ∙ add_done E st s refl bytes refl c.in_ok-row.ensures.room c.in_ok-row.row c.in_ok-row.ensures.row (rows_seen t) (put_last s t c.in_ok-row.row c.in_ok-row.ensures.room p.rows p.count p.rest.0);
     }
 
-pub returns-in-err-row : goal.returns-in-err-row
-returns-in-err-row g c =
+pub returns-in_err-row : goal.returns-in_err-row
+returns-in_err-row g c =
     let f = c.args.self.now in
     let m = g.S.OperatorSet.meaning f.problem.set in
     let E = finder_setting m (g.M.Measure.meaning f.problem.measure) f in
@@ -45,5 +45,5 @@ returns-in-err-row g c =
       kept = record { set = refl; measure = refl; channels = refl };
       moves =
           ap (λ (r : Result (Unit {0}) SheetRefusal). changed (refused_by sheet_refusal r) st) (p.1 ∙ ap Err p.2)
-          ∙ add-refused E st s refl bytes refl c.in-err-row.field-0.0 c.in-err-row.ensures.row;
+          ∙ add-refused E st s refl bytes refl c.in_err-row.field-0.0 c.in_err-row.ensures.row;
     }

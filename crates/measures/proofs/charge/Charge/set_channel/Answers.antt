@@ -2,7 +2,7 @@ use Rattle.std.proofs.Common.{◌∙◌, length-set}
 use Rattle.measures.specs.Weights.{charges_recharged}
 use Rattle.measures.proofs.charge.Charge.set_channel.Goals as goal
 
-pub invariant-of-self : goal.invariant-of-self
-invariant-of-self c =
+pub invariant_of-self : goal.invariant_of-self
+invariant_of-self c =
     let s = c.args.self.now in
     (s.operators_ok, (charges_recharged _ s.channels c.args.channel c.args.charge s.channels_ok c.if-not-in-range.ensures, (s.operators_full, (length-set s.channels c.args.channel c.args.charge ∙ s.channels_full, tt))))

@@ -2,7 +2,7 @@ use Rattle.std.proofs.Common.{◌∙◌, length-set}
 use Rattle.measures.specs.Weights.{charges_recharged}
 use Rattle.measures.proofs.charge.Charge.set_operator.Goals as goal
 
-pub invariant-of-self : goal.invariant-of-self
-invariant-of-self c =
+pub invariant_of-self : goal.invariant_of-self
+invariant_of-self c =
     let s = c.args.self.now in
     (charges_recharged _ s.operators c.args.op c.args.charge s.operators_ok c.if-not-in-range.ensures, (s.channels_ok, (length-set s.operators c.args.op c.args.charge ∙ s.operators_full, (s.channels_full, tt))))

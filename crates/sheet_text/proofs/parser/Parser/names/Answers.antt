@@ -26,13 +26,13 @@ pub loop-part-preserved : goal.loop-part-preserved
 loop-part-preserved c =
     let same = c.word-in-line.ensures.onward.0 ∙ c.loop-part.invariant.0.0 in (
       search rules,
-      all_grown _ _ _ _ c.in-ok-push.ensures.items c.loop-part.invariant.1
+      all_grown _ _ _ _ c.in_ok-push.ensures.items c.loop-part.invariant.1
           (omega (
             arith,
             word-within c.loop-part.self.lexer c.word-in-line.new.self.lexer c.in-Some.part c.in-Some.ensures.word,
             ap (λ t. length t.now) same,
           )),
       named_more c.args.self.now.lexer c.loop-part.self.lexer c.word-in-line.new.self.lexer (vec_items c.loop-part.names) _ c.in-Some.part
-          c.in-ok-push.ensures.items c.loop-part.invariant.2 c.in-Some.ensures.word
+          c.in_ok-push.ensures.items c.loop-part.invariant.2 c.in-Some.ensures.word
           (name-same c.args.self.now.lexer.text.now c.word-in-line.new.self.lexer.text.now (vec_items c.loop-part.names) c.deref.result.now c.in-Some.part.bytes.now _ (ap (λ t. t.now) same) c.deref.ensures.value c.if-not-is-new-name.ensures),
     )

@@ -15,20 +15,20 @@ returns-then-not-same c = record {
   few = tt;
 }
 
-pub returns-in-err-row : goal.returns-in-err-row
-returns-in-err-row c =
+pub returns-in_err-row : goal.returns-in_err-row
+returns-in_err-row c =
     let p = err_from_is_err_and c.from-residual.result c.from-residual.ensures.1 in
     rw (p.1, p.2) (record {
-      lines = rows_fault c.args.channels.value c.args.self.now.lexer c.loop-part.self.lexer c.first-word.new.self.lexer c.row-line.new.self.lexer c.loop-part.rows c.in-Some.part c.len.result c.in-err-row.field-0.0
-          c.len.ensures c.loop-part.invariant.2 c.in-Some.ensures.word c.if-not-same.ensures c.in-err-row.ensures.line;
+      lines = rows_fault c.args.channels.value c.args.self.now.lexer c.loop-part.self.lexer c.first-word.new.self.lexer c.row-line.new.self.lexer c.loop-part.rows c.in-Some.part c.len.result c.in_err-row.field-0.0
+          c.len.ensures c.loop-part.invariant.2 c.in-Some.ensures.word c.if-not-same.ensures c.in_err-row.ensures.line;
       onward = (c.row-line.ensures.onward.0 ∙ c.first-word.ensures.onward.0 ∙ c.loop-part.invariant.0.0, omega arith);
-      ordinary = c.in-err-row.ensures.ordinary;
+      ordinary = c.in_err-row.ensures.ordinary;
       few = tt;
     })
 
-pub returns-in-err-push : goal.returns-in-err-push
-returns-in-err-push c =
-    let p = err_from_is_err_and c.from-residual-in-err-push.result c.from-residual-in-err-push.ensures.1 in
+pub returns-in_err-push : goal.returns-in_err-push
+returns-in_err-push c =
+    let p = err_from_is_err_and c.from-residual-in_err-push.result c.from-residual-in_err-push.ensures.1 in
     rw (p.1, p.2) (record {
       lines = tt;
       onward = (c.row-line.ensures.onward.0 ∙ c.first-word.ensures.onward.0 ∙ c.loop-part.invariant.0.0, omega arith);
@@ -39,7 +39,7 @@ returns-in-err-push c =
 pub loop-part-preserved : goal.loop-part-preserved
 loop-part-preserved c = (
   (c.row-line.ensures.onward.0 ∙ c.first-word.ensures.onward.0 ∙ c.loop-part.invariant.0.0, omega arith),
-  omega (arith, c.in-ok-push.ensures.len, c.in-ok-row.ensures.standing, c.len.ensures),
-  rows_more c.args.channels.value c.args.self.now.lexer c.loop-part.self.lexer c.first-word.new.self.lexer c.row-line.new.self.lexer c.loop-part.rows c.push.new.self c.in-ok-row.row c.in-Some.part c.len.result
-      c.in-ok-push.ensures.items c.len.ensures c.loop-part.invariant.2 c.in-Some.ensures.word c.if-not-same.ensures c.in-ok-row.ensures.line,
+  omega (arith, c.in_ok-push.ensures.len, c.in_ok-row.ensures.standing, c.len.ensures),
+  rows_more c.args.channels.value c.args.self.now.lexer c.loop-part.self.lexer c.first-word.new.self.lexer c.row-line.new.self.lexer c.loop-part.rows c.push.new.self c.in_ok-row.row c.in-Some.part c.len.result
+      c.in_ok-push.ensures.items c.len.ensures c.loop-part.invariant.2 c.in-Some.ensures.word c.if-not-same.ensures c.in_ok-row.ensures.line,
 )

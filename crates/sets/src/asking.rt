@@ -8,7 +8,8 @@ ghost use Rattle.operators.specs.Masks.{masked_laws, masked_spelt};
 ghost use Rattle.books.specs.Stored.{held_meaning, held_names};
 ghost use Rattle.books.specs.Held.{held_laws, held_spelt};
 ghost use Rattle.sets.specs.declared.any_set.AnySet.TheVariants.{Builtin, Book, BuiltinThenBook, BookThenBuiltin, MaskedBuiltin, MaskedBook, MaskedPair, TwoMasks, Four, Eight};
-ghost use Rattle.sets.specs.Laws.{paired_laws, quad_laws, paired_spelt, quad_spelt};
+ghost use Rattle.operators.specs.Pairs.{paired_laws, paired_spelt};
+ghost use Rattle.sets.specs.Laws.{quad_laws, quad_spelt};
 ghost use Rattle.operators.specs.Builtin.{builtin_names};
 
 use crate::any_set::AnySet;

@@ -37,5 +37,5 @@ returns g c f says =
     let n : length (listed s) ≡ s.count = listed-length s in
     let inside = says_inside m (g.met.S.OperatorSet.lawful c.args.set.now) c.args.reading.now (listed s) (length (listed s) - 1) f says in
     let t = c.loop-i-test.false in
-    let last = c.saturating-sub.ensures in
+    let last = c.saturating_sub.ensures in
     c.band_at.ensures ∙ ap (λ k. get_or c.loop-i.bands k mark) (last ∙ ap (λ k. k - 1) (sym n)) ∙ c.loop-i.invariant.1 (length (listed s) - 1) (omega arith) f says

@@ -8,8 +8,8 @@ returns-then-arity-eq0 c = sized_leaf c.args.pieces.now c.args.cap c.args.at c.r
 pub returns-then-arity-eq1 : goal.returns-then-arity-eq1
 returns-then-arity-eq1 c =
     let ps = c.args.pieces.now in
-    sized_one ps c.args.cap c.args.at _ _ c.both-first.ensures c.requires.step c.argument-size.result _ c.if-arity-eq1.true
-    (counted ps c.args.cap c.args.at _ _ c.args.sizes.now c.requires.before c.argument-size.ensures.earlier c.argument-size.ensures.later)
+    sized_one ps c.args.cap c.args.at _ _ c.both-first.ensures c.requires.step c.argument_size.result _ c.if-arity-eq1.true
+    (counted ps c.args.cap c.args.at _ _ c.args.sizes.now c.requires.before c.argument_size.ensures.earlier c.argument_size.ensures.later)
     (λ h. omega arith, λ h. omega arith)
 
 pub returns-then-arity-gt2 : goal.returns-then-arity-gt2
@@ -18,7 +18,7 @@ returns-then-arity-gt2 c = sized_many c.args.pieces.now c.args.cap c.args.at _ _
 pub returns : goal.returns
 returns c =
     let ps = c.args.pieces.now in
-    sized_two ps c.args.cap c.args.at _ _ c.both-first.ensures c.requires.step c.argument-size.result c.argument-size-2.result _ (omega arith)
-    (counted ps c.args.cap c.args.at _ _ c.args.sizes.now c.requires.before c.argument-size.ensures.earlier c.argument-size.ensures.later)
-    (counted ps c.args.cap c.args.at _ _ c.args.sizes.now c.requires.before c.argument-size-2.ensures.earlier c.argument-size-2.ensures.later)
+    sized_two ps c.args.cap c.args.at _ _ c.both-first.ensures c.requires.step c.argument_size.result c.argument_size-2.result _ (omega arith)
+    (counted ps c.args.cap c.args.at _ _ c.args.sizes.now c.requires.before c.argument_size.ensures.earlier c.argument_size.ensures.later)
+    (counted ps c.args.cap c.args.at _ _ c.args.sizes.now c.requires.before c.argument_size-2.ensures.earlier c.argument_size-2.ensures.later)
     (λ h. omega arith, λ h. omega arith)

@@ -7,8 +7,8 @@ returns c h =
     let i = c.args.from in
     let s = c.args.out.now in
     let n = length c.args.name.now in
-    let ys = c.copy-from-slice.new.self in
-    let same = c.copy-from-slice.ensures.after in
+    let ys = c.copy_from_slice.new.self in
+    let same = c.copy_from_slice.ensures.after in
     let sizes = ap length same in
     record {
       behind = refl;

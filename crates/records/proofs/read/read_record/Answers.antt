@@ -35,9 +35,9 @@ returns g c =
     let k = c.args.channels.value in
     let bytes = c.args.bytes.now in
     record {
-      refused = c.read-steps.ensures.refused;
-      steps = c.read-steps.ensures.steps;
-      lawful = exactly m laws k bytes c.read-steps.result c.read-steps.ensures.refused;
-      checked = checked m laws k bytes c.read-steps.result c.read-steps.ensures.refused c.read-steps.ensures.steps;
-      formula = one m laws k bytes c.read-steps.result c.read-steps.ensures.refused;
+      refused = c.read_steps.ensures.refused;
+      steps = c.read_steps.ensures.steps;
+      lawful = exactly m laws k bytes c.read_steps.result c.read_steps.ensures.refused;
+      checked = checked m laws k bytes c.read_steps.result c.read_steps.ensures.refused c.read_steps.ensures.steps;
+      formula = one m laws k bytes c.read_steps.result c.read_steps.ensures.refused;
     }

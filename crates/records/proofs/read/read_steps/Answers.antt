@@ -12,19 +12,19 @@ use Rattle.records.specs.Reading.{step_refusal, steps_refusal, size_refusal}
 use Rattle.records.proofs.Lawfulness.{first_more, first_stays, size_passes, listed-length}
 use Rattle.records.proofs.read.read_steps.Goals as goal
 
-pub returns-in_err-check-step : goal.returns-in_err-check-step
-returns-in_err-check-step g c =
+pub returns-in_err-check_step : goal.returns-in_err-check_step
+returns-in_err-check_step g c =
     let m = g.S.OperatorSet.meaning c.args.set.now in
     let k = c.args.channels.value in
     let bytes = c.args.bytes.now in
     let i = c.loop-i.i in
-    let p = err_from_is_err_and c.from-residual-in_err-check-step.result c.from-residual-in_err-check-step.ensures.1 in
+    let p = err_from_is_err_and c.from-residual-in_err-check_step.result c.from-residual-in_err-check_step.ensures.1 in
     let f : ℕ → Option (ℕ × ℕ) = λ j. step_refusal m k j (step_at bytes j) in
     let n : c.in_ok-n.n ≡ steps_in bytes = c.in_ok-n.ensures.number.0 in
     let t = c.loop-i-test.true in
     let l : i < steps_in bytes = omega arith in
-    let fails : f i ≡ Some (record_refusal c.in_err-check-step.field-0.0) = ap (step_refusal m k i) (sym c.step-next.ensures) ∙ sym c.in_err-check-step.ensures in
-    let whole = size_passes bytes (steps_refusal m k bytes (steps_in bytes)) (sym c.in_ok-n.ensures.refused) ∙ first_stays f (steps_in bytes) i (record_refusal c.in_err-check-step.field-0.0) c.loop-i.invariant.1 fails l in
+    let fails : f i ≡ Some (record_refusal c.in_err-check_step.field-0.0) = ap (step_refusal m k i) (sym c.step-next.ensures) ∙ sym c.in_err-check_step.ensures in
+    let whole = size_passes bytes (steps_refusal m k bytes (steps_in bytes)) (sym c.in_ok-n.ensures.refused) ∙ first_stays f (steps_in bytes) i (record_refusal c.in_err-check_step.field-0.0) c.loop-i.invariant.1 fails l in
     record {
       refused = ap (refused_by record_refusal) p.1 ∙ ap (λ e. Some (record_refusal e)) p.2 ∙ sym whole;
       steps = subst (λ r. IfOk r (λ (s : Steps). listed s ≡ steps_of bytes)) (sym p.1) tt;
@@ -41,7 +41,7 @@ loop-i-preserved g c =
     let t = c.loop-i-test.true in
     let same : c.loop-i.steps.count ≡ i = sym (listed-length c.loop-i.steps) ∙ ap length c.loop-i.invariant.0 ∙ length-map-range_with_len (step_at bytes) 0 i in
     let room : c.push.result ≡ true = c.push.ensures.room ∙ lt-ltb c.loop-i.steps.count most_steps (omega arith) in
-    let passes : f i ≡ None = ap (step_refusal m k i) (sym c.step-next.ensures) ∙ sym c.in_ok-check-step.ensures in (
+    let passes : f i ≡ None = ap (step_refusal m k i) (sym c.step-next.ensures) ∙ sym c.in_ok-check_step.ensures in (
       c.push.ensures.steps
           ∙ cond-true c.push.result (listed c.loop-i.steps ++ c.step-next.result ∷ []) (listed c.loop-i.steps) room
           ∙ ap (λ (l : List Step). l ++ c.step-next.result ∷ []) c.loop-i.invariant.0

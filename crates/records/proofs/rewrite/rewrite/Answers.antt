@@ -16,15 +16,15 @@ module _ (m : SetMeaning) (channels : ℕ) (bytes s : List ℕ) (read : None ≡
   room : length bytes ≤ length s → bytes_and_room m channels bytes s ≡ None
   room h = ap (λ o. or_else o (cond (ltb (length s) (length bytes)) (Some (9, 0)) None)) (sym read) ∙ ap (λ b. cond b (Some (9, 0)) None) (le-ltb (length s) (length bytes) h)
 
-pub returns-in-Err-write-record : goal.returns-in-Err-write-record
-returns-in-Err-write-record g c =
+pub returns-in-Err-write_record : goal.returns-in-Err-write_record
+returns-in-Err-write_record g c =
     let m = g.S.OperatorSet.meaning c.args.set.now in
     let bytes = c.args.bytes.now in
     let s = c.args.buffer.now in
     let small : (i : ℕ) → get_or bytes i 0 < 256 = λ i. (c.type-inv.bytes i).fits in
     let l : Lawful m c.args.channels.value bytes = c.in-Ok.ensures.lawful.0 refl in
     let same : record_of (listed c.in-Ok.steps) ≡ bytes = ap record_of c.in-Ok.ensures.steps ∙ writes_back bytes small l.long in
-    let w = c.in-Err-write-record.ensures.written in
+    let w = c.in-Err-write_record.ensures.written in
     let less : length s < length bytes = subst (λ r. length s < length r) same w.2 in
     record {
       refused = ap Some w.0 ∙ sym (no_room m c.args.channels.value bytes s c.in-Ok.ensures.refused less);
@@ -32,18 +32,18 @@ returns-in-Err-write-record g c =
       written = w.1;
     }
 
-pub returns-in-Ok-write-record : goal.returns-in-Ok-write-record
-returns-in-Ok-write-record g c =
+pub returns-in-Ok-write_record : goal.returns-in-Ok-write_record
+returns-in-Ok-write_record g c =
     let m = g.S.OperatorSet.meaning c.args.set.now in
     let bytes = c.args.bytes.now in
     let s = c.args.buffer.now in
     let small : (i : ℕ) → get_or bytes i 0 < 256 = λ i. (c.type-inv.bytes i).fits in
     let l : Lawful m c.args.channels.value bytes = c.in-Ok.ensures.lawful.0 refl in
     let same : record_of (listed c.in-Ok.steps) ≡ bytes = ap record_of c.in-Ok.ensures.steps ∙ writes_back bytes small l.long in
-    let w = c.in-Ok-write-record.ensures.written in
+    let w = c.in-Ok-write_record.ensures.written in
     let fits : length bytes ≤ length s = subst (λ r. length r ≤ length s) same w.2 in
     record {
       refused = sym (room m c.args.channels.value bytes s c.in-Ok.ensures.refused fits);
       lawful = ((λ e. (l, fits)), (λ p. refl));
-      written = (w.0 ∙ ap length same, w.1 ∙ ap (λ r. r ++ drop c.in-Ok-write-record.size s) same);
+      written = (w.0 ∙ ap length same, w.1 ∙ ap (λ r. r ++ drop c.in-Ok-write_record.size s) same);
     }

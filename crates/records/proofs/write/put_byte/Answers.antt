@@ -5,6 +5,6 @@ use Rattle.records.proofs.write.put_byte.Goals as goal
 pub returns : goal.returns
 returns c h = record {
   behind = refl;
-  front = ap (take (c.args.from + 1)) c.set-byte.ensures ∙ take_more_set c.args.out.now c.args.from c.args.byte (omega arith);
-  rest = ap (drop (c.args.from + 1)) c.set-byte.ensures ∙ drop-set-lt (c.args.from + 1) c.args.out.now c.args.from c.args.byte (omega arith);
+  front = ap (take (c.args.from + 1)) c.set_byte.ensures ∙ take_more_set c.args.out.now c.args.from c.args.byte (omega arith);
+  rest = ap (drop (c.args.from + 1)) c.set_byte.ensures ∙ drop-set-lt (c.args.from + 1) c.args.out.now c.args.from c.args.byte (omega arith);
 }

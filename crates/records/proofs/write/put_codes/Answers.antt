@@ -9,10 +9,10 @@ loop-step-preserved c =
     let s = c.args.out.now in
     let xs = c.args.steps.now in
     let i = c.loop-step.step-index in
-    let put : List ℕ → Type 0 = λ x. Puts s c.put-byte-at.new.out c.args.from c.put-byte-at.result x in
+    let put : List ℕ → Type 0 = λ x. Puts s c.put_byte-at.new.out c.args.from c.put_byte-at.result x in
     subst put (codes_more xs i _ c.loop-step-test.true)
     (subst (λ x. put (map step_code (take i xs) ++ x ∷ [])) c.code.ensures
-    (chain s c.loop-step.out c.put-byte-at.new.out c.args.from c.loop-step.at c.put-byte-at.result (map step_code (take i xs)) (c.code.result ∷ []) c.loop-step.auto.out c.loop-step.invariant c.put-byte-at.ensures))
+    (chain s c.loop-step.out c.put_byte-at.new.out c.args.from c.loop-step.at c.put_byte-at.result (map step_code (take i xs)) (c.code.result ∷ []) c.loop-step.auto.out c.loop-step.invariant c.put_byte-at.ensures))
 
 pub returns : goal.returns
 returns c =

@@ -10,8 +10,8 @@ loop-step-preserved c =
     let s = c.args.out.now in
     let xs = c.args.steps.now in
     let i = c.loop-step.step-index in
-    subst (λ x. Puts s c.put-field-at.new.out c.args.from c.put-field-at.result x) (fields_more xs i _ c.loop-step-test.true)
-    (chain s c.loop-step.out c.put-field-at.new.out c.args.from c.loop-step.at c.put-field-at.result (flat_map field_of (take i xs)) (field_of (get_or xs i _)) c.loop-step.auto.out c.loop-step.invariant c.put-field-at.ensures)
+    subst (λ x. Puts s c.put_field-at.new.out c.args.from c.put_field-at.result x) (fields_more xs i _ c.loop-step-test.true)
+    (chain s c.loop-step.out c.put_field-at.new.out c.args.from c.loop-step.at c.put_field-at.result (flat_map field_of (take i xs)) (field_of (get_or xs i _)) c.loop-step.auto.out c.loop-step.invariant c.put_field-at.ensures)
 
 pub returns : goal.returns
 returns c =

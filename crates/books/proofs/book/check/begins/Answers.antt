@@ -4,12 +4,12 @@ use Rattle.operators.specs.Names.{letter}
 use Rattle.books.specs.Spellings.{begun}
 use Rattle.books.proofs.book.check.begins.Goals as goal
 
-pub slice_bounds-spaces-only-count : goal.slice_bounds-spaces-only-count
-slice_bounds-spaces-only-count c = omega (arith, prefix_len-le-length letter c.args.bytes.now)
+pub slice_bounds-spaces_only-count : goal.slice_bounds-spaces_only-count
+slice_bounds-spaces_only-count c = omega (arith, prefix_len-le-length letter c.args.bytes.now)
 
-pub slice_bounds-spaces-only-start : goal.slice_bounds-spaces-only-start
-slice_bounds-spaces-only-start c = omega (arith, prefix_len-le-length letter c.args.bytes.now)
+pub slice_bounds-spaces_only-start : goal.slice_bounds-spaces_only-start
+slice_bounds-spaces_only-start c = omega (arith, prefix_len-le-length letter c.args.bytes.now)
 
 pub returns-then-n-ge1 : goal.returns-then-n-ge1
 returns-then-n-ge1 c =
-    begun c.args.bytes.now c.letters-n.result c.spaces-only.result c.letters-n.ensures c.if-n-ge1.true c.spaces-only.ensures
+    begun c.args.bytes.now c.letters-n.result c.spaces_only.result c.letters-n.ensures c.if-n-ge1.true c.spaces_only.ensures

@@ -10,6 +10,6 @@ invariant_of-result c =
     let n = name_ok c.args.book.now c.args.op s c.requires.within in
     let a = arity_ok c.args.book.now c.args.op s c.requires.within in
     let t = table_ok c.args.book.now c.args.op s c.requires.within in
-    let w : c.copy-from-slice.new.self ≡ name_of c.args.book.now c.args.op = search rules in
-    let l : length c.copy-from-slice.new.self ≡ 4 = search rules in
-    (l, (subst (λ (xs : List ℕ). begins_name xs ≡ true) (sym w) n, (a, ((λ j. let u = t j in search rules), tt))))
+    let w : c.copy_from_slice.new.self ≡ name_of c.args.book.now c.args.op = search rules in
+    let l : length c.copy_from_slice.new.self ≡ 4 = search rules in
+    record { wide = l; spelt = subst (λ (xs : List ℕ). begins_name xs ≡ true) (sym w) n; narrow = a; banded = λ j. let u = t j in search rules }

@@ -28,6 +28,6 @@ returns-in-None g c =
     let n = f.sheet.count in
     let F = build E R c.args.weight in
     let b = c.args.bank.now in
-    builds_end E R c.args.weight _ _ (option_seen m c.build-operators.result) _ c.build-operators.ensures
+    builds_end E R c.args.weight _ _ (option_seen m c.build_operators.result) _ c.build_operators.ensures
     ∙ c.in-None.ensures (up_from (block m.arity b.filled) m.count 0)
     ∙ ap (F (record { places = bank_seen m n b; over = false })) (ordered m (g.M.Measure.meaning f.measure) f.sheet b (g.met.S.OperatorSet.lawful f.set).narrow)

@@ -10,7 +10,7 @@ returns-in-Some g c =
     let E = setting m (g.M.Measure.meaning f.measure) f.sheet in
     let ps = bank_seen m f.sheet.count c.args.bank.now in
     let t = candidate_seen m c.args.candidate in
-    lower-known E (rows_seen f.sheet) ps t c.args.best (known E (rows_seen f.sheet) ps t _ c.in-Some.field-0 c.column-of-column.ensures.bands (c.in-Some.ensures m))
+    lower-known E (rows_seen f.sheet) ps t c.args.best (known E (rows_seen f.sheet) ps t _ c.in-Some.field-0 c.column_of-column.ensures.bands (c.in-Some.ensures m))
 
 pub returns-in-None : goal.returns-in-None
 returns-in-None g c =
@@ -19,7 +19,7 @@ returns-in-None g c =
     let E = setting m (g.M.Measure.meaning f.measure) f.sheet in
     let ps = bank_seen m f.sheet.count c.args.bank.now in
     let t = candidate_seen m c.args.candidate in
-    lower-new E (rows_seen f.sheet) ps t c.args.best c.value-weight.result c.args.last (c.value-weight.ensures ∙ c.weight_of.ensures) c.requires c.if-weight-last.false c.if-weight-best.true (unknown E (rows_seen f.sheet) ps t _ c.column-of-column.ensures.bands (c.in-None.ensures m))
+    lower-new E (rows_seen f.sheet) ps t c.args.best c.value-weight.result c.args.last (c.value-weight.ensures ∙ c.weight_of.ensures) c.requires c.if-weight-last.false c.if-weight-best.true (unknown E (rows_seen f.sheet) ps t _ c.column_of-column.ensures.bands (c.in-None.ensures m))
 
 pub returns-else-weight-best : goal.returns-else-weight-best
 returns-else-weight-best g c =

@@ -12,7 +12,7 @@ returns-then-value-weight g c =
     let E = setting m (g.M.Measure.meaning f.measure) f.sheet in
     let h = held_seen m f.sheet.count c.args.bank.now in
     let t = candidate_seen m c.args.candidate in
-    offered-other E (rows_seen f.sheet) c.args.weight h t c.value.result (c.value.ensures ∙ c.weight-of-own.ensures) c.if-value-weight.true
+    offered-other E (rows_seen f.sheet) c.args.weight h t c.value.result (c.value.ensures ∙ c.weight_of-own.ensures) c.if-value-weight.true
 
 pub returns-then-wants : goal.returns-then-wants
 returns-then-wants g c =
@@ -21,7 +21,7 @@ returns-then-wants g c =
     let E = setting m (g.M.Measure.meaning f.measure) f.sheet in
     let h = held_seen m f.sheet.count c.args.bank.now in
     let t = candidate_seen m c.args.candidate in
-    offered-fits E (rows_seen f.sheet) c.args.weight h t c.value.result _ (c.value.ensures ∙ c.weight-of-own.ensures) c.if-value-weight.false c.column-of-column.ensures.bands (c.wants.ensures.0 c.if-wants.true)
+    offered-fits E (rows_seen f.sheet) c.args.weight h t c.value.result _ (c.value.ensures ∙ c.weight_of-own.ensures) c.if-value-weight.false c.column_of-column.ensures.bands (c.wants.ensures.0 c.if-wants.true)
 
 pub returns-in-Some : goal.returns-in-Some
 returns-in-Some g c =
@@ -30,8 +30,8 @@ returns-in-Some g c =
     let E = setting m (g.M.Measure.meaning f.measure) f.sheet in
     let h = held_seen m f.sheet.count c.args.bank.now in
     let t = candidate_seen m c.args.candidate in
-    offered-known E (rows_seen f.sheet) c.args.weight h t c.value.result _ (c.value.ensures ∙ c.weight-of-own.ensures) c.if-value-weight.false c.column-of-column.ensures.bands (not_from_Decides _ c.wants.ensures c.if-wants.false)
-    (known E (rows_seen f.sheet) h.places t _ c.in-Some.field-0 c.column-of-column.ensures.bands (c.in-Some.ensures m))
+    offered-known E (rows_seen f.sheet) c.args.weight h t c.value.result _ (c.value.ensures ∙ c.weight_of-own.ensures) c.if-value-weight.false c.column_of-column.ensures.bands (not_from_Decides _ c.wants.ensures c.if-wants.false)
+    (known E (rows_seen f.sheet) h.places t _ c.in-Some.field-0 c.column_of-column.ensures.bands (c.in-Some.ensures m))
 
 pub returns-in-None : goal.returns-in-None
 returns-in-None g c =
@@ -40,6 +40,6 @@ returns-in-None g c =
     let E = setting m (g.M.Measure.meaning f.measure) f.sheet in
     let h = held_seen m f.sheet.count c.args.bank.now in
     let t = candidate_seen m c.args.candidate in
-    offered-new E (rows_seen f.sheet) c.args.weight h t c.value.result _ (c.value.ensures ∙ c.weight-of-own.ensures) c.if-value-weight.false c.column-of-column.ensures.bands (not_from_Decides _ c.wants.ensures c.if-wants.false)
-    (unknown E (rows_seen f.sheet) h.places t _ c.column-of-column.ensures.bands (c.in-None.ensures m))
-    _ (c.push.ensures m f.sheet.count ∙ ap (λ v. grown h (record { top = t; column = take f.sheet.count c.column-of-column.result; weight = v })) (sym c.value.ensures))
+    offered-new E (rows_seen f.sheet) c.args.weight h t c.value.result _ (c.value.ensures ∙ c.weight_of-own.ensures) c.if-value-weight.false c.column_of-column.ensures.bands (not_from_Decides _ c.wants.ensures c.if-wants.false)
+    (unknown E (rows_seen f.sheet) h.places t _ c.column_of-column.ensures.bands (c.in-None.ensures m))
+    _ (c.push.ensures m f.sheet.count ∙ ap (λ v. grown h (record { top = t; column = take f.sheet.count c.column_of-column.result; weight = v })) (sym c.value.ensures))

@@ -12,8 +12,8 @@ use Rattle.finder.proofs.state.Finder.add.Goals as goal
 abbrev changed : Option (ℕ × ℕ) → State → Change
 changed o st = record { refusal = o; after = st }
 
-pub put-last-requires : goal.put-last-requires
-put-last-requires g c = c.in_ok-row.ensures.room
+pub put_last-requires : goal.put_last-requires
+put_last-requires g c = c.in_ok-row.ensures.room
 
 pub returns : goal.returns
 returns g c =
@@ -23,8 +23,8 @@ returns g c =
     let st = finder_seen m f in
     let s = f.problem.sheet in
     let bytes = c.args.bytes.now in
-    let t = c.put-last.new.self in
-    let p = c.put-last.ensures in
+    let t = c.put_last.new.self in
+    let p = c.put_last.ensures in
     record {
       kept = record { set = refl; measure = refl; channels = p.rest.0 };
       moves =

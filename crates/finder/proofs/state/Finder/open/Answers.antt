@@ -7,6 +7,6 @@ returns g c =
     record {
       set = refl;
       measure = refl;
-      channels = c.no-rows.ensures.channels;
-      fresh = opens (g.S.OperatorSet.meaning c.args.set) c.no-rows.result c.no-places.result c.args.limit.value c.no-rows.ensures.count c.no-places.ensures (ap (λ l. l.value) c.no-rows.ensures.limit);
+      channels = c.no_rows.ensures.channels;
+      fresh = opens (g.S.OperatorSet.meaning c.args.set) c.no_rows.result c.no_places.result c.args.limit.value c.no_rows.ensures.count c.no_places.ensures (ap (λ l. l.value) c.no_rows.ensures.limit);
     }

@@ -5,4 +5,9 @@ use Rattle.measures.proofs.charge.Charge.set_channel.Goals as goal
 pub invariant_of-self : goal.invariant_of-self
 invariant_of-self c =
     let s = c.args.self.now in
-    (s.operators_ok, (charges_recharged _ s.channels c.args.channel c.args.charge s.channels_ok c.if-not-in-range.ensures, (s.operators_full, (length-set s.channels c.args.channel c.args.charge ∙ s.channels_full, tt))))
+    record {
+      operators_ok = s.operators_ok;
+      channels_ok = charges_recharged _ s.channels c.args.channel c.args.charge s.channels_ok c.if-not-in_range.ensures;
+      operators_full = s.operators_full;
+      channels_full = length-set s.channels c.args.channel c.args.charge ∙ s.channels_full;
+    }

@@ -17,6 +17,6 @@ pub loop-part-preserved : goal.loop-part-preserved
 loop-part-preserved c = (
   search rules,
   search rules,
-  bytes_more c.args.self.now.lexer c.loop-part.self.lexer c.word-in-line.new.self.lexer (vec_items c.loop-part.bytes) _ c.in-Some.part c.in-Some-byte.b
+  bytes_more c.args.self.now.lexer c.loop-part.self.lexer c.word_in_line.new.self.lexer (vec_items c.loop-part.bytes) _ c.in-Some.part c.in-Some-byte.b
       c.in_ok-push.ensures.items c.loop-part.invariant.2 c.in-Some.ensures.word (sym c.in-Some-byte.ensures),
 )

@@ -19,9 +19,9 @@ pub returns-in_err-row : goal.returns-in_err-row
 returns-in_err-row c =
     let p = err_from_is_err_and c.from-residual.result c.from-residual.ensures.1 in
     rw (p.1, p.2) (record {
-      lines = rows_fault c.args.channels.value c.args.self.now.lexer c.loop-part.self.lexer c.first-word.new.self.lexer c.row-line.new.self.lexer c.loop-part.rows c.in-Some.part c.len.result c.in_err-row.field-0.0
+      lines = rows_fault c.args.channels.value c.args.self.now.lexer c.loop-part.self.lexer c.first_word.new.self.lexer c.row_line.new.self.lexer c.loop-part.rows c.in-Some.part c.len.result c.in_err-row.field-0.0
           c.len.ensures c.loop-part.invariant.2 c.in-Some.ensures.word c.if-not-same.ensures c.in_err-row.ensures.line;
-      onward = (c.row-line.ensures.onward.0 ∙ c.first-word.ensures.onward.0 ∙ c.loop-part.invariant.0.0, omega arith);
+      onward = (c.row_line.ensures.onward.0 ∙ c.first_word.ensures.onward.0 ∙ c.loop-part.invariant.0.0, omega arith);
       ordinary = c.in_err-row.ensures.ordinary;
       few = tt;
     })
@@ -31,15 +31,15 @@ returns-in_err-push c =
     let p = err_from_is_err_and c.from-residual-in_err-push.result c.from-residual-in_err-push.ensures.1 in
     rw (p.1, p.2) (record {
       lines = tt;
-      onward = (c.row-line.ensures.onward.0 ∙ c.first-word.ensures.onward.0 ∙ c.loop-part.invariant.0.0, omega arith);
+      onward = (c.row_line.ensures.onward.0 ∙ c.first_word.ensures.onward.0 ∙ c.loop-part.invariant.0.0, omega arith);
       ordinary = refl;
       few = tt;
     })
 
 pub loop-part-preserved : goal.loop-part-preserved
 loop-part-preserved c = (
-  (c.row-line.ensures.onward.0 ∙ c.first-word.ensures.onward.0 ∙ c.loop-part.invariant.0.0, omega arith),
+  (c.row_line.ensures.onward.0 ∙ c.first_word.ensures.onward.0 ∙ c.loop-part.invariant.0.0, omega arith),
   omega (arith, c.in_ok-push.ensures.len, c.in_ok-row.ensures.standing, c.len.ensures),
-  rows_more c.args.channels.value c.args.self.now.lexer c.loop-part.self.lexer c.first-word.new.self.lexer c.row-line.new.self.lexer c.loop-part.rows c.push.new.self c.in_ok-row.row c.in-Some.part c.len.result
+  rows_more c.args.channels.value c.args.self.now.lexer c.loop-part.self.lexer c.first_word.new.self.lexer c.row_line.new.self.lexer c.loop-part.rows c.push.new.self c.in_ok-row.row c.in-Some.part c.len.result
       c.in_ok-push.ensures.items c.len.ensures c.loop-part.invariant.2 c.in-Some.ensures.word c.if-not-same.ensures c.in_ok-row.ensures.line,
 )

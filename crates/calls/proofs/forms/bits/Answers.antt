@@ -13,7 +13,7 @@ overflow_add-n c =
 
 pub returns-in_err-digit : goal.returns-in_err-digit
 returns-in_err-digit c =
-    c.from-residual.ensures
+    c.from_residual.ensures
     ∙ bits_is c.args.word.now None (omega arith) (omega arith)
     (sym c.loop-b.invariant.0 ∙ hex_more c.args.word.now c.loop-b.b-index c.loop-b.n None (omega arith) c.in_err-digit.ensures)
 

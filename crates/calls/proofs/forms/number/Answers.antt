@@ -4,7 +4,7 @@ use Rattle.calls.proofs.forms.number.Goals as goal
 
 pub returns-in_err-digit : goal.returns-in_err-digit
 returns-in_err-digit c =
-    c.from-residual.ensures
+    c.from_residual.ensures
     ∙ number_is c.args.word.now None (omega arith)
     (sym c.loop-b.invariant.0 ∙ decimal-more c.args.word.now c.loop-b.b-index c.loop-b.n None (omega arith) c.in_err-digit.ensures)
 

@@ -40,7 +40,7 @@ returns-in_err-row g c =
     let st = finder_seen m f in
     let s = f.problem.sheet in
     let bytes = c.args.bytes.now in
-    let p = err_from_is_err_and c.from-residual.result c.from-residual.ensures.1 in
+    let p = err_from_is_err_and c.from_residual.result c.from_residual.ensures.1 in
     record {
       kept = record { set = refl; measure = refl; channels = refl };
       moves =

@@ -5,7 +5,7 @@ use Rattle.sheet_text.proofs.LineSteps.{channels-names, channels-refused}
 use Rattle.sheet_text.proofs.parser.Parser.channels_line.Goals as goal
 
 pub returns-in_err-names : goal.returns-in_err-names
-returns-in_err-names c = let p = err_from_is_err_and c.from-residual-in_err-names.result c.from-residual-in_err-names.ensures.1 in rw (p.1, p.2) (record {
+returns-in_err-names c = let p = err_from_is_err_and c.from_residual-in_err-names.result c.from_residual-in_err-names.ensures.1 in rw (p.1, p.2) (record {
   line = channels-names c.args.self.now.lexer c.due.new.self.lexer c.names.new.self.lexer c.in_ok-head.head c.in_err-names.field-0.0 c.in_ok-head.ensures.due c.in_err-names.ensures.read;
   onward = search rules;
   ordinary = c.in_err-names.ensures.ordinary;

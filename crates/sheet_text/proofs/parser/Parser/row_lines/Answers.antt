@@ -17,7 +17,7 @@ returns-then-not-same c = record {
 
 pub returns-in_err-row : goal.returns-in_err-row
 returns-in_err-row c =
-    let p = err_from_is_err_and c.from-residual.result c.from-residual.ensures.1 in
+    let p = err_from_is_err_and c.from_residual.result c.from_residual.ensures.1 in
     rw (p.1, p.2) (record {
       lines = rows_fault c.args.channels.value c.args.self.now.lexer c.loop-part.self.lexer c.first_word.new.self.lexer c.row_line.new.self.lexer c.loop-part.rows c.in-Some.part c.len.result c.in_err-row.field-0.0
           c.len.ensures c.loop-part.invariant.2 c.in-Some.ensures.word c.if-not-same.ensures c.in_err-row.ensures.line;
@@ -28,7 +28,7 @@ returns-in_err-row c =
 
 pub returns-in_err-push : goal.returns-in_err-push
 returns-in_err-push c =
-    let p = err_from_is_err_and c.from-residual-in_err-push.result c.from-residual-in_err-push.ensures.1 in
+    let p = err_from_is_err_and c.from_residual-in_err-push.result c.from_residual-in_err-push.ensures.1 in
     rw (p.1, p.2) (record {
       lines = tt;
       onward = (c.row_line.ensures.onward.0 ∙ c.first_word.ensures.onward.0 ∙ c.loop-part.invariant.0.0, omega arith);

@@ -7,7 +7,7 @@ use Rattle.sheet_text.proofs.parser.Parser.sheet.Goals as goal
 
 pub returns-in_err-measure : goal.returns-in_err-measure
 returns-in_err-measure c =
-    let p = err_from_is_err_and c.from-residual-in_err-measure.result c.from-residual-in_err-measure.ensures.1 in
+    let p = err_from_is_err_and c.from_residual-in_err-measure.result c.from_residual-in_err-measure.ensures.1 in
     rw (p.1, p.2) (record {
       read = inr (c.channels_line.new.self.lexer, vec_items c.in_ok-names.names, c.in_ok-names.ensures.line, inl c.in_err-measure.ensures.line);
       ordinary = c.in_err-measure.ensures.ordinary;
@@ -16,7 +16,7 @@ returns-in_err-measure c =
 
 pub returns-in_err-limit : goal.returns-in_err-limit
 returns-in_err-limit c =
-    let p = err_from_is_err_and c.from-residual-in_err-limit.result c.from-residual-in_err-limit.ensures.1 in
+    let p = err_from_is_err_and c.from_residual-in_err-limit.result c.from_residual-in_err-limit.ensures.1 in
     rw (p.1, p.2) (record {
       read = inr (
         c.channels_line.new.self.lexer,
@@ -30,7 +30,7 @@ returns-in_err-limit c =
 
 pub returns-in_err-rows : goal.returns-in_err-rows
 returns-in_err-rows c =
-    let p = err_from_is_err_and c.from-residual-in_err-rows.result c.from-residual-in_err-rows.ensures.1 in
+    let p = err_from_is_err_and c.from_residual-in_err-rows.result c.from_residual-in_err-rows.ensures.1 in
     rw (p.1, p.2) (record {
       read = sheet_rows c.args.self.now.lexer c.channels_line.new.self.lexer c.measure_line.new.self.lexer c.limit_line.new.self.lexer c.row_lines.new.self.lexer
           (vec_items c.in_ok-names.names) c.in_ok-measure.measure c.in_ok-limit.limit.value c.in_ok-names.channels.value c.in_err-rows.field-0.0

@@ -37,13 +37,13 @@ enum Shape {
 }
 
 fn term_of(word: &[u8]) -> Term<'_> {
-    if word == b"builtin" {
+    if word == b"builtin".as_slice() {
         Term::Builtin
-    } else if word == b"book" {
+    } else if word == b"book".as_slice() {
         Term::Book
-    } else if word == b"mask" {
+    } else if word == b"mask".as_slice() {
         Term::Mask
-    } else if word == b"pair" {
+    } else if word == b"pair".as_slice() {
         Term::Pair
     } else {
         Term::Digits(word)

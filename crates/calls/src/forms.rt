@@ -80,7 +80,7 @@ fn byte(high: u8, low: u8) -> Option<u8> {
 // The bytes that hexadecimal digits write, two for each byte, and `-` for none.
 pub(crate) fn bytes(heap: Global, word: &[u8]) -> Result<Option<Vec<u8>>, AllocError> {
     let mut out = Vec::new(heap);
-    if word == b"-" {
+    if word == b"-".as_slice() {
         return Ok(Some(out));
     }
     if word.len() % 2 != 0 {

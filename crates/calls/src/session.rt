@@ -26,15 +26,15 @@ enum Verb {
 }
 
 fn verb_of(word: &[u8]) -> Verb {
-    if word == b"set" {
+    if word == b"set".as_slice() {
         Verb::Set
-    } else if word == b"count" {
+    } else if word == b"count".as_slice() {
         Verb::Count
-    } else if word == b"arity" {
+    } else if word == b"arity".as_slice() {
         Verb::Arity
-    } else if word == b"band" {
+    } else if word == b"band".as_slice() {
         Verb::Band
-    } else if word == b"name" {
+    } else if word == b"name".as_slice() {
         Verb::Name
     } else {
         law_verb_of(word)
@@ -42,13 +42,13 @@ fn verb_of(word: &[u8]) -> Verb {
 }
 
 fn law_verb_of(word: &[u8]) -> Verb {
-    if word == b"law" {
+    if word == b"law".as_slice() {
         Verb::Law
-    } else if word == b"fill" {
+    } else if word == b"fill".as_slice() {
         Verb::Fill
-    } else if word == b"reading" {
+    } else if word == b"reading".as_slice() {
         Verb::Reading
-    } else if word == b"record" {
+    } else if word == b"record".as_slice() {
         Verb::Record
     } else {
         Verb::Unknown

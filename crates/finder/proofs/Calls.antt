@@ -12,7 +12,7 @@ use Rattle.rows.specs.Read.{row_seen, Read}
 use Rattle.rows.specs.declared.row.Row.{Row}
 use Rattle.rows.specs.declared.channels.ChannelCount.{ChannelCount}
 use Rattle.search.specs.Places as places
-use Rattle.search.specs.Machine.{State, Change, opened, is_open, most_rows, turned_down, last_row, reopened, add}
+use Rattle.search.specs.Machine.{State, opened, is_open, most_rows, turned_down, last_row, reopened, add}
 use Rattle.search.proofs.Lists.{choose_yes, choose_no}
 use Rattle.finder.specs.View.{rows_seen, place_seen}
 use Rattle.finder.specs.Whole.{whole, NextRow}

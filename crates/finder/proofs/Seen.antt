@@ -11,7 +11,7 @@ use Rattle.formulas.specs.declared.steps.Top.TheVariants.{Channel, Operator}
 use Rattle.rows.specs.Rows.{StandingRow, wanted_of}
 use Rattle.rows.specs.Read.{row_seen}
 use Rattle.rows.specs.declared.row.Row.{Row}
-use Rattle.search.specs.Lists.{In, choose, numbers}
+use Rattle.search.specs.Lists.{In, numbers}
 use Rattle.search.specs.Places as places
 use Rattle.search.specs.Places.{bands_at, weights_at}
 use Rattle.search.specs.Stored.{Held, grown, no_place, no_row, columns_in, band_of, column_of, weight_of, last_weight}

@@ -1,8 +1,8 @@
 -- Lawful steps say one well-formed formula.
-use Rattle.std.proofs.Common.{◌≡◌, ℕ, zero, suc, ◌+◌, ◌-◌, ◌<◌, ◌≤◌, List, length, sym, refl, ap, ◌∙◌, subst, ap₂, arith}
-use Rattle.operators.specs.Bands.{SetMeaning, SetLaws}
+use Rattle.std.proofs.Common.{◌≡◌, ℕ, zero, suc, ◌+◌, ◌-◌, ◌<◌, ◌≤◌, List, length, sym, refl, ap, ◌∙◌, ap₂, arith}
+use Rattle.operators.specs.Bands.{SetMeaning}
 use Rattle.formulas.specs.Formula.{Formula, Formulas, channel, operator, nil, cons, count, WellFormed, AllFormed}
-use Rattle.formulas.specs.Says.{step_of, argument_of, top_arity, Known, LawfulStep, LawfulSteps, StepSays, ArgumentsSay, SaysOne, LawfulStepsSayOne}
+use Rattle.formulas.specs.Says.{step_of, argument_of, top_arity, Known, LawfulStep, LawfulSteps, StepSays, ArgumentsSay, SaysOne}
 use Rattle.formulas.specs.declared.steps.Step.{Step}
 use Rattle.formulas.specs.declared.steps.Top.{Top}
 use Rattle.formulas.specs.declared.steps.Top.TheVariants.{Channel, Operator}

@@ -1,10 +1,10 @@
 -- The bands of steps are those of the formulas that they say.
-use Rattle.std.proofs.Common.{◌≡◌, ℕ, zero, suc, ◌+◌, ◌<◌, ◌≤◌, min, List, map, length, get_or, set, sym, refl, ap, ◌∙◌, subst, inl, inr, arith}
+use Rattle.std.proofs.Common.{◌≡◌, ℕ, zero, suc, ◌+◌, ◌<◌, min, List, map, length, get_or, set, sym, ap, ◌∙◌, subst, inl, inr, arith}
 use Rattle.std.specs.List.{range_with_len}
 use Rattle.std.proofs.lemmas.List.{get_or-set_same, get_or-set_other}
 use Rattle.std.proofs.lemmas.Bool.{cases_eq, cases_lt}
 use Rattle.std.proofs.lemmas.List.FromFn.{get_or-map-range_with_len}
-use Rattle.operators.specs.Bands.{mark, most_arguments, argument, SetMeaning, SetLaws}
+use Rattle.operators.specs.Bands.{mark, most_arguments, SetMeaning, SetLaws}
 use Rattle.formulas.specs.Formula.{Formula, Formulas, channel, operator, nil, cons, count, band, bands}
 use Rattle.formulas.specs.Says.{step_of, argument_of, StepSays, ArgumentsSay}
 use Rattle.formulas.specs.declared.steps.Step.{Step}

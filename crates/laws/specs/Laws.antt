@@ -13,7 +13,7 @@ use Rattle.formulas.specs.declared.steps.Step.{Step}
 use Rattle.formulas.specs.declared.steps.Steps.{Steps}
 use Rattle.formulas.specs.declared.steps.Top.{Top}
 use Rattle.formulas.specs.declared.steps.Top.TheVariants.{Channel, Operator}
-use Rattle.records.specs.Bytes.{steps_of, record_of}
+use Rattle.records.specs.Bytes.{record_of}
 use Rattle.records.specs.Writing.{Written}
 use Rattle.records.specs.Record.{Lawful, Says, SaysOneFormula}
 

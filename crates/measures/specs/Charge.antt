@@ -1,5 +1,5 @@
 -- Charge: an operator or channel number has a charge of 1 to 1,000, and a weight is the own charge plus the arguments' weights.
-use Rattle.std.specs.Prelude.{ℕ, ◌+◌, ◌≤◌, min, Bool, cond, ◌&&◌, List, set, Some, None, sum, Option, nat_le, nat_lt, slice_index_or, slice_set}
+use Rattle.std.specs.Prelude.{ℕ, ◌+◌, ◌≤◌, min, Bool, cond, ◌&&◌, List, Some, None, sum, Option, nat_le, nat_lt, slice_index_or, slice_set}
 use Rattle.measures.specs.Measures.{beyond, MeasureMeaning}
 
 -- the charge at a number, 1 past the end

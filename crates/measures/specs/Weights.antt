@@ -8,7 +8,7 @@ use Rattle.measures.specs.Lists.{In, here, there}
 use Rattle.measures.specs.Measures.{NoHeavier, MeasureLaws}
 use Rattle.measures.specs.Values.{values}
 use Rattle.measures.specs.declared.weight.Weight.{Weight}
-use Rattle.measures.specs.Charge.{charge_at, charged, chargeable, Charges}
+use Rattle.measures.specs.Charge.{charged, chargeable, Charges}
 use Rattle.measures.specs.Depth.{depth}
 
 -- a fold that grows with its start and with each element

@@ -1,5 +1,5 @@
 -- The built-in operators, by their numbers: 0 nil, 1 one, 2 next, 3 sum, 4 rest, 5 high, 6 low, 7 geq, 8 quo.
-use Rattle.std.specs.Prelude.{ℕ, ◌+◌, ◌-◌, ◌/◌, min, max, Bool, cond, List, [], ◌∷◌, codes, ◌==◌, nat_le, slice_index, slice_index_or}
+use Rattle.std.specs.Prelude.{ℕ, ◌+◌, ◌-◌, ◌/◌, min, max, cond, List, [], ◌∷◌, codes, ◌==◌, nat_le, slice_index, slice_index_or}
 use Rattle.operators.specs.Bands.{mark, argument, SetMeaning}
 use Rattle.operators.specs.Names.{blank}
 

@@ -1,5 +1,5 @@
 -- Names of operators: four bytes, one to four letters a to z and then spaces. Four spaces for a number that is not offered.
-use Rattle.std.specs.Prelude.{◌≡◌, ℕ, ◌-◌, ◌<◌, ◌≤◌, Bool, true, ◌&&◌, List, [], ◌∷◌, ◌++◌, length, take, replicate, nat_le}
+use Rattle.std.specs.Prelude.{◌≡◌, ℕ, ◌-◌, ◌<◌, ◌≤◌, Bool, ◌&&◌, List, ◌++◌, length, take, replicate, nat_le}
 use Rattle.std.specs.List.{prefix_len}
 use Rattle.operators.specs.Bands.{SetMeaning}
 

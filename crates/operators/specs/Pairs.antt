@@ -1,10 +1,10 @@
 -- A pair of two sets that keep the laws keeps them.
 use Rattle.std.specs.Prelude.{◌≡◌, ℕ, ◌-◌, ◌<◌, ◌≤◌, Bool, true, false, cond, List, nat_lt, refl}
-use Rattle.std.proofs.Common.{ap, arith}
+use Rattle.std.proofs.Common.{arith}
 use Rattle.std.proofs.lemmas.Bool.{ltb-true, ltb-false}
 use Rattle.operators.specs.Bands.{mark, most_arguments, argument, SetMeaning, SetLaws}
 use Rattle.operators.specs.Names.{Name, NameLaws, blank}
-use Rattle.operators.specs.Pair.{pair_count, which, paired, pair_names}
+use Rattle.operators.specs.Pair.{pair_count, paired, pair_names}
 
 -- what holds of each of three cases holds of the one that is taken
 chosen : {X : Type 0} (P : X → Type 0) (p q : Bool) (x y z : X) → (p ≡ true → P x) → (p ≡ false → q ≡ true → P y) → (p ≡ false → q ≡ false → P z) → P (cond p x (cond q y z))

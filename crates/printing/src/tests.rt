@@ -79,7 +79,7 @@ fn names_channels_and_operators(rt: HostRuntime) {
     let text = b"P1 P22";
     let names = b"addssum ";
     let spans = [Span { from: 0, size: 2 }, Span { from: 3, size: 3 }];
-    assert!(rt; label(text, names, &spans, Top::Channel(1)) == b"P22");
-    assert!(rt; label(text, names, &spans, Top::Operator(1)) == b"sum");
+    assert!(rt; label(text, names, &spans, Top::Channel(1)) == b"P22".as_slice());
+    assert!(rt; label(text, names, &spans, Top::Operator(1)) == b"sum".as_slice());
     assert!(rt; label(text, names, &spans, Top::Operator(2)).is_empty());
 }

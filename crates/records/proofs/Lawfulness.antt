@@ -1,11 +1,10 @@
 -- A record is read exactly where it is lawful, and then it says one formula.
-use Rattle.std.proofs.Common.{◌≡◌, ℕ, zero, suc, ◌+◌, ◌-◌, ◌<◌, ◌≤◌, Bool, true, false, cond, ◌&&◌, ◌||◌, eqb, ltb, leb, ◌⊎◌, ◌↔◌, List, map, length, get_or, Some, None, Option, sym, refl, ap, ◌∙◌, subst, inl, inr, arith}
-use Rattle.std.specs.List.{range_with_len}
+use Rattle.std.proofs.Common.{◌≡◌, ℕ, zero, suc, ◌+◌, ◌<◌, ◌≤◌, Bool, true, false, cond, ◌||◌, eqb, ltb, ◌⊎◌, List, length, Some, None, Option, sym, refl, ap, ◌∙◌, subst, inl, inr, arith}
 use Rattle.std.proofs.lemmas.List.{length-take}
 use Rattle.std.proofs.lemmas.Bool.{ltb-true, ltb-false, lt-ltb, le-ltb, eqb-true, eq-eqb, and_parts, and_from, or_parts, or_from, cond-true, cond-false, cases_lt}
 use Rattle.std.proofs.lemmas.List.FromFn.{length-map-range_with_len, get_or-map-range_with_len}
 use Rattle.operators.specs.Bands.{most_arguments, SetMeaning, SetLaws}
-use Rattle.formulas.specs.Says.{argument_of, top_arity, Known, LawfulStep, LawfulSteps, SaysOne, no_step, step_of}
+use Rattle.formulas.specs.Says.{argument_of, top_arity, Known, LawfulStep, LawfulSteps, no_step, step_of}
 use Rattle.formulas.specs.declared.steps.Step.{Step}
 use Rattle.formulas.specs.Steps.{listed}
 use Rattle.formulas.specs.declared.steps.Steps.{Steps}

@@ -1,6 +1,6 @@
 -- What reading a record is refused, in this order: 15 under two bytes, 16 for the number of steps, 15 for the length, and then step
 -- by step 17 for the code and 18 for the arguments, with the step as the place.
-use Rattle.std.specs.Prelude.{◌≡◌, ℕ, zero, suc, Bool, true, cond, ◌&&◌, ◌||◌, List, length, Some, None, Option, ◌==◌, nat_lt}
+use Rattle.std.specs.Prelude.{ℕ, zero, suc, Bool, true, cond, ◌&&◌, ◌||◌, List, length, Some, None, Option, ◌==◌, nat_lt}
 use Rattle.operators.specs.Bands.{most_arguments, SetMeaning}
 use Rattle.formulas.specs.Says.{argument_of, top_arity}
 use Rattle.formulas.specs.Steps.{most_steps}

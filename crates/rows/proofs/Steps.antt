@@ -1,5 +1,5 @@
 -- Lists that a row is taken apart into and put together from.
-use Rattle.std.proofs.Common.{◌≡◌, ℕ, suc, ◌+◌, ◌-◌, ◌<◌, ◌≤◌, List, [], ◌∷◌, ◌++◌, length, get_or, take, drop, set, replicate, sym, refl, ap, ◌∙◌, arith}
+use Rattle.std.proofs.Common.{◌≡◌, ℕ, suc, ◌+◌, ◌-◌, ◌<◌, ◌≤◌, List, [], ◌∷◌, ◌++◌, length, get_or, take, drop, set, replicate, sym, ap, ◌∙◌, arith}
 use Rattle.rows.specs.Rows.{padded}
 use Rattle.std.proofs.lemmas.List.{take_at, drop_more, take_rest, set_at, take_more, append_assoc, length-take-le}
 

@@ -2,7 +2,7 @@
 use Rattle.std.specs.Prelude.{◌≡◌, ℕ, List, take, Ok, Err, Result}
 use Rattle.refusals.specs.Numbers.{sheet_refusal}
 use Rattle.refusals.specs.declared.sheet.SheetRefusal.{SheetRefusal}
-use Rattle.rows.specs.Rows.{StandingRow, judged, said, refused, padded}
+use Rattle.rows.specs.Rows.{StandingRow, judged, said, refused}
 use Rattle.rows.specs.declared.row.Row.{Row}
 
 -- what a stored row says with c channels

@@ -4,7 +4,7 @@ use Rattle.std.proofs.lemmas.List.{append_assoc}
 use Rattle.search.specs.Order.{up_from, span, channel, cell, row, block}
 use Rattle.search.specs.Lists.{each, counted, numbers}
 use Rattle.formulas.specs.Setting.{Setting}
-use Rattle.search.specs.Places.{Candidate, of_channel, of_operator, tuples, candidates}
+use Rattle.search.specs.Places.{of_channel, of_operator, tuples, candidates}
 use Rattle.search.proofs.Lists.{map-append}
 
 module _ {X : Type 0} (f : ℕ → List X) (n i : ℕ) where

@@ -1,5 +1,5 @@
 -- One candidate: what it does to the level that is looked for, and to the one that is built.
-use Rattle.std.proofs.Common.{◌≡◌, ℕ, ◌<◌, ◌≤◌, Bool, true, false, List, [], ◌∷◌, Some, None, Option, sym, refl, ap, ◌∙◌, subst, ap₂, arith}
+use Rattle.std.proofs.Common.{◌≡◌, ℕ, ◌<◌, ◌≤◌, Bool, true, false, List, [], ◌∷◌, Some, None, sym, refl, ap, ◌∙◌, subst, ap₂, arith}
 use native.Mathlib.Decide.{dec_lt, ℕ_discrete}
 use Rattle.formulas.specs.Setting.{Setting}
 use Rattle.rows.specs.Rows.{StandingRow, wanted_of}

@@ -7,7 +7,7 @@ use Rattle.rows.specs.Rows.{StandingRow}
 use Rattle.search.specs.Places.{Candidate, Place, candidates}
 use Rattle.search.specs.Stored.{most_places, Held, level_at, built, build, kept, dec_fit, dec_known, weight_of, place_of}
 use Rattle.search.specs.Marks.{steps_at}
-use Rattle.search.specs.Machine.{State, Move, by_rules, by_room, settles_as, advance_open, is_none, is_full, is_found, none, full, found}
+use Rattle.search.specs.Machine.{State, by_rules, by_room, settles_as, advance_open, is_none, is_found, none, found}
 use Rattle.search.proofs.Lists.{choose-by}
 
 -- ── what is built keeps the places before ──

@@ -1,6 +1,6 @@
 -- The search over stored places: a candidate's column and weight are worked out from the rows, or from the columns and the
 -- weights that stand at the places of its arguments.
-use Rattle.std.specs.Prelude.{◌≡◌, ℕ, ◌<◌, ◌≤◌, Bool, true, false, List, [], ◌∷◌, ◌++◌, map, length, get_or, Some, None, Option, slice_index_or}
+use Rattle.std.specs.Prelude.{◌≡◌, ℕ, ◌<◌, Bool, true, false, List, [], ◌∷◌, ◌++◌, map, length, get_or, Some, None, Option, slice_index_or}
 use Rattle.std.proofs.Math.Decide.{dec_lt, ℕ_discrete}
 use Rattle.measures.specs.Measures.{beyond}
 use Rattle.formulas.specs.Setting.{Setting}

@@ -1,4 +1,4 @@
-use Rattle.std.proofs.Common.{◌≡◌, ℕ, ◌+◌, ◌<◌, ◌≤◌, Bool, true, false, List, [], ◌∷◌, ◌++◌, length, take, drop, Some, None, Ok, Err, Option, Result, sym, refl, ap, ◌∙◌, subst, arith, length-take-le, Bor}
+use Rattle.std.proofs.Common.{◌≡◌, ℕ, true, List, length, take, drop, Some, None, Ok, Option, sym, refl, ap, ◌∙◌, subst, arith, length-take-le, Bor}
 use Rattle.std.specs.List.{AllByRecursion as All}
 use Rattle.std.proofs.ByRecursion.{All-push}
 use Rattle.std.proofs.lemmas.List.Sums.{prefix_len-le-length}
@@ -10,10 +10,10 @@ use Rattle.rows.specs.declared.span.Span.{Span}
 use Rattle.sheet_text.specs.Forms.{is_name}
 use Rattle.sheet_text.specs.Lines as lines
 use Rattle.sheet_text.specs.Lines.{Named, Names, ChannelsLine, RowsRead, RowLines, SaysRow, span_of}
-use Rattle.sheet_text.specs.Spans.{name_at, name_ok, repeats, Formed}
+use Rattle.sheet_text.specs.Spans.{name_at, name_ok, Formed}
 use Rattle.sheet_text.specs.Steps as steps
 use Rattle.sheet_text.specs.Steps.{Passed, IsFirstWord}
-use Rattle.sheet_text.specs.Texts.{Lexed, in_word, start_of, size_of, part_of}
+use Rattle.sheet_text.specs.Texts.{Lexed, in_word, start_of, size_of}
 
 -- each row that was read is right
 pub said-rows : (channels : ℕ) (s : Lexer) (rows : List (List ℕ)) (t : Lexer) → RowsRead channels s rows t → All (SaysRow channels) rows

@@ -2,7 +2,6 @@
 use Rattle.std.specs.Prelude.{ℕ, ◌+◌, ◌-◌, ◌*◌, Bool, false, cond, ◌&&◌, ◌||◌, List, [], ◌∷◌, length, Some, None, codes, Option, ◌==◌, nat_le}
 use Rattle.std.specs.List.{prefix_len}
 use Rattle.std.specs.Str.{bytes_eq}
-use Rattle.std.specs.Int.Digits.{number_from_digits}
 use Rattle.sheet_text.specs.declared.sheet.MeasureKind.{MeasureKind}
 use Rattle.sheet_text.specs.declared.sheet.MeasureKind.TheVariants.{Nodes, Depth}
 

@@ -1,5 +1,5 @@
 -- How a text is read, word by word and line by line.
-use Rattle.std.specs.Prelude.{◌≡◌, ℕ, ◌<◌, ◌≤◌, ◌⊎◌, Some, None, Option}
+use Rattle.std.specs.Prelude.{◌≡◌, ◌<◌, ◌≤◌, ◌⊎◌, Some, None, Option}
 use Rattle.sheet_text.specs.declared.lexer.Lexer.{Lexer}
 use Rattle.sheet_text.specs.declared.lexer.Part.{Part}
 use Rattle.sheet_text.specs.declared.lexer.Word.TheVariants as word

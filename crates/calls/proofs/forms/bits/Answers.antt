@@ -1,4 +1,4 @@
-use Rattle.std.proofs.Common.{◌≡◌, get_or, Some, None, sym, ◌∙◌, arith}
+use Rattle.std.proofs.Common.{get_or, Some, None, sym, ◌∙◌, arith}
 use Rattle.calls.proofs.Digits.{hex_more, hex_all, hex_most, sixteens_more, sixteens_bound, bits_is}
 use Rattle.calls.proofs.forms.bits.Goals as goal
 

@@ -1,4 +1,4 @@
-use Rattle.std.proofs.Common.{◌≡◌, Some, None, sym, ◌∙◌, arith}
+use Rattle.std.proofs.Common.{Some, None, sym, ◌∙◌, arith}
 use Rattle.calls.proofs.Digits.{decimal-more, decimal-all, decimal-past, decimal_on, number_is}
 use Rattle.calls.proofs.forms.number.Goals as goal
 

@@ -1,10 +1,8 @@
-use Rattle.std.proofs.Common.{◌≡◌, ℕ, ◌-◌, ◌<◌, length, get_or, sym, ap, ◌∙◌, subst, arith, length-set}
+use Rattle.std.proofs.Common.{◌≡◌, ◌-◌, length, get_or, sym, ap, ◌∙◌, arith, length-set}
 use Rattle.std.proofs.lemmas.List.{get_or-take, get_or_default}
 use Rattle.operators.specs.Bands.{mark}
-use Rattle.formulas.specs.Formula.{band}
-use Rattle.formulas.specs.Says.{no_step, step_of, StepSays}
+use Rattle.formulas.specs.Says.{no_step, step_of}
 use Rattle.formulas.specs.Steps.{listed}
-use Rattle.formulas.specs.declared.steps.Step.{Step}
 use Rattle.records.proofs.Lawfulness.{listed-length}
 use Rattle.laws.specs.Laws.{step_band}
 use Rattle.laws.proofs.Bands.{known_more, says_inside}

@@ -1,4 +1,4 @@
-use Rattle.std.proofs.Common.{◌≡◌, [], ◌∷◌, subst, arith}
+use Rattle.std.proofs.Common.{[], ◌∷◌, subst, arith}
 use Rattle.printing.specs.Formulas.{Puts}
 use Rattle.printing.proofs.Puts.{chain}
 use Rattle.printing.proofs.Standing.{within, falls_first, falls_second, as_leaf, as_one, as_two}

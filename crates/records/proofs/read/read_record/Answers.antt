@@ -1,4 +1,4 @@
-use Rattle.std.proofs.Common.{◌≡◌, ℕ, true, ◌↔◌, List, is_ok, IfOk, Some, None, Ok, Err, Result, sym, refl, ◌∙◌, subst, arith}
+use Rattle.std.proofs.Common.{◌≡◌, ℕ, true, ◌↔◌, List, is_ok, IfOk, Ok, Err, Result, sym, refl, subst, arith}
 use Rattle.refusals.specs.Numbers.{record_refusal, refused_by}
 use Rattle.refusals.specs.declared.record.RecordRefusal.{RecordRefusal}
 use Rattle.operators.specs.Bands.{SetMeaning, SetLaws}

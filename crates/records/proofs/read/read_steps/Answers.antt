@@ -1,4 +1,4 @@
-use Rattle.std.proofs.Common.{◌≡◌, ℕ, ◌<◌, true, cond, List, [], ◌∷◌, ◌++◌, map, length, IfOk, Some, None, Option, sym, refl, ap, ◌∙◌, subst, arith}
+use Rattle.std.proofs.Common.{◌≡◌, ℕ, ◌<◌, true, List, [], ◌∷◌, ◌++◌, map, length, IfOk, Some, None, Option, sym, ap, ◌∙◌, subst, arith}
 use Rattle.std.specs.List.{range_with_len}
 use Rattle.std.proofs.lemmas.List.FromFn.{length-map-range_with_len, map-range_with_len_more}
 use Rattle.std.proofs.lemmas.Result.{err_from_is_err_and}
@@ -8,7 +8,7 @@ use Rattle.formulas.specs.Steps.{listed, most_steps}
 use Rattle.formulas.specs.declared.steps.Step.{Step}
 use Rattle.formulas.specs.declared.steps.Steps.{Steps}
 use Rattle.records.specs.Bytes.{steps_in, step_at, steps_of}
-use Rattle.records.specs.Reading.{step_refusal, steps_refusal, size_refusal}
+use Rattle.records.specs.Reading.{step_refusal, steps_refusal}
 use Rattle.records.proofs.Lawfulness.{first_more, first_stays, size_passes, listed-length}
 use Rattle.records.proofs.read.read_steps.Goals as goal
 

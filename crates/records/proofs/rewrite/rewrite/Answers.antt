@@ -1,8 +1,8 @@
-use Rattle.std.proofs.Common.{◌≡◌, ℕ, ◌<◌, ◌≤◌, true, false, cond, ltb, List, ◌++◌, length, get_or, drop, Some, None, Option, sym, refl, ap, ◌∙◌, subst, arith}
+use Rattle.std.proofs.Common.{◌≡◌, ℕ, ◌<◌, ◌≤◌, cond, ltb, List, ◌++◌, length, get_or, drop, Some, None, sym, refl, ap, ◌∙◌, subst, arith}
 use Rattle.std.proofs.lemmas.Bool.{lt-ltb, le-ltb}
 use Rattle.operators.specs.Bands.{SetMeaning}
 use Rattle.formulas.specs.Steps.{listed}
-use Rattle.records.specs.Bytes.{record_of, steps_of}
+use Rattle.records.specs.Bytes.{record_of}
 use Rattle.records.specs.Record.{Lawful}
 use Rattle.records.specs.Reading.{or_else, bytes_refusal}
 use Rattle.records.specs.Rewriting.{bytes_and_room}

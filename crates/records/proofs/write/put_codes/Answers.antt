@@ -1,7 +1,7 @@
-use Rattle.std.proofs.Common.{ℕ, ◌+◌, List, [], ◌∷◌, ◌++◌, map, get_or, take, subst, arith}
+use Rattle.std.proofs.Common.{ℕ, List, [], ◌∷◌, ◌++◌, map, take, subst}
 use Rattle.records.specs.Bytes.{step_code}
 use Rattle.records.specs.Writing.{Puts}
-use Rattle.records.proofs.Puts.{chain, none, codes_more, codes_all}
+use Rattle.records.proofs.Puts.{chain, codes_more, codes_all}
 use Rattle.records.proofs.write.put_codes.Goals as goal
 
 pub loop-step-preserved : goal.loop-step-preserved

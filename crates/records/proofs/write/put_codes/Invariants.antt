@@ -1,4 +1,4 @@
-use Rattle.std.proofs.Common.{◌≡◌, map, length, take}
+use Rattle.std.proofs.Common.{map, take}
 use Rattle.records.specs.Bytes.{step_code}
 use Rattle.records.specs.Writing.{Puts}
 use Rattle.records.proofs.write.put_codes.Given as goal

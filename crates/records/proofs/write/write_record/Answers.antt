@@ -1,4 +1,4 @@
-use Rattle.std.proofs.Common.{◌≡◌, ℕ, ◌+◌, ◌*◌, List, [], ◌∷◌, ◌++◌, map, length, sym, refl, ap, ◌∙◌, subst, arith}
+use Rattle.std.proofs.Common.{List, ◌++◌, map, length, sym, refl, subst, arith}
 use Rattle.std.specs.List.{flat_map}
 use Rattle.formulas.specs.Steps.{listed}
 use Rattle.formulas.specs.declared.steps.Step.{Step}

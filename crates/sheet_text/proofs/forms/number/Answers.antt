@@ -1,4 +1,4 @@
-use Rattle.std.proofs.Common.{◌≡◌, get_or, sym, ◌∙◌, arith}
+use Rattle.std.proofs.Common.{get_or, sym, ◌∙◌, arith}
 use Rattle.std.proofs.lemmas.List.Sums.{prefix_len-drop_no, prefix_len-drop_yes, prefix_len-drop_all}
 use Rattle.sheet_text.specs.Forms.{digit}
 use Rattle.sheet_text.proofs.Decimals.{decimal-more, decimal-all, tens_more, tens_bound, number-none, number-some, digit_value}

@@ -1,7 +1,7 @@
-use Rattle.std.proofs.Common.{◌≡◌, ◌+◌, ◌≤◌, Bool, true, false, ◌||◌, length, get_or, sym, ap, ◌∙◌, arith, rules}
+use Rattle.std.proofs.Common.{◌≡◌, length, get_or, sym, ap, ◌∙◌, arith}
 use Rattle.std.specs.Str.{bytes_eq}
 use Rattle.std.proofs.ByRecursion.{All-get_or}
-use Rattle.sheet_text.specs.Spans.{InText, name_at, repeats}
+use Rattle.sheet_text.specs.Spans.{InText, name_at}
 use Rattle.sheet_text.proofs.Repeats.{nowhere, repeats-here, repeats_on, repeats-all, cut_is}
 use Rattle.sheet_text.proofs.names.is_repeated.Goals as goal
 use Rattle.sheet_text.proofs.names.is_repeated.Goals.{After-same}

@@ -1,4 +1,4 @@
-use Rattle.std.proofs.Common.{arith, rules}
+use Rattle.std.proofs.Common.{arith}
 use Rattle.sheet_text.proofs.LineSteps.{parsed_from}
 use Rattle.sheet_text.proofs.parse.parse.Goals as goal
 

@@ -1,9 +1,7 @@
-use Rattle.std.proofs.Common.{◌≡◌, false, List, [], ◌++◌, length, Some, None, Option, sym, refl, ap, ◌∙◌}
-use Rattle.std.proofs.lemmas.List.{append-nil}
-use Rattle.search.specs.Places.{Candidate}
-use Rattle.search.specs.Stored.{Held, build}
-use Rattle.search.specs.Order.{channel, block, up_from}
-use Rattle.finder.specs.View.{setting, rows_seen, bank_seen, held_seen, option_seen}
+use Rattle.std.proofs.Common.{false, ap, ◌∙◌}
+use Rattle.search.specs.Stored.{build}
+use Rattle.search.specs.Order.{block, up_from}
+use Rattle.finder.specs.View.{setting, rows_seen, bank_seen, option_seen}
 use Rattle.finder.proofs.Loops.{ordered, builds_end}
 use Rattle.finder.proofs.problem.Problem.build.Goals as goal
 

@@ -1,4 +1,3 @@
-use Rattle.std.proofs.Common.{◌≡◌}
 use Rattle.search.specs.Stored.{build}
 use Rattle.search.specs.Order.{channel}
 use Rattle.search.proofs.Nest.{Through}

@@ -1,9 +1,9 @@
-use Rattle.std.proofs.Common.{◌≡◌, Bool, true, false, List, [], ◌∷◌, ◌++◌, sym, refl, ap, ◌∙◌, arith}
-use Rattle.search.specs.Stored.{Held, build}
-use Rattle.search.specs.Order.{channel, cell, row, block, span, up_from}
+use Rattle.std.proofs.Common.{◌≡◌, refl, ap, ◌∙◌, arith}
+use Rattle.search.specs.Stored.{build}
+use Rattle.search.specs.Order.{cell, row, block, span}
 use Rattle.search.proofs.Nest.{through_turn, through_more, through_all}
 use Rattle.search.proofs.Offers.{build-past, build_hit}
-use Rattle.finder.specs.View.{setting, rows_seen, bank_seen, held_seen, candidate_seen}
+use Rattle.finder.specs.View.{setting, rows_seen, held_seen}
 use Rattle.finder.proofs.problem.Problem.build_operators.Given as given
 use Rattle.finder.proofs.problem.Problem.build_operators.Goals as goal
 use Rattle.finder.proofs.problem.Problem.build_operators.Goals.{After-turns-seconds}

@@ -1,4 +1,3 @@
-use Rattle.std.proofs.Common.{◌≡◌}
 use Rattle.search.specs.Stored.{lowest}
 use Rattle.finder.specs.View.{setting, rows_seen, bank_seen}
 use Rattle.search.specs.Order.{channel, cell, row, block}

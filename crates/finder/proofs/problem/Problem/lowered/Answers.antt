@@ -1,4 +1,4 @@
-use Rattle.std.proofs.Common.{◌≡◌, ◌∙◌}
+use Rattle.std.proofs.Common.{◌∙◌}
 use Rattle.finder.specs.View.{setting, rows_seen, bank_seen, candidate_seen}
 use Rattle.search.proofs.Offers.{known, unknown, lower-known, lower-new, lower_not, lower_last}
 use Rattle.finder.proofs.problem.Problem.lowered.Goals as goal

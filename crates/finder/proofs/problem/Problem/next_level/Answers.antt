@@ -1,4 +1,4 @@
-use Rattle.std.proofs.Common.{◌≡◌, ℕ, ◌≤◌, List, length, take, sym, refl, ap, ◌∙◌, ap₂, arith}
+use Rattle.std.proofs.Common.{◌≡◌, ℕ, ◌≤◌, List, length, take, sym, ap, ◌∙◌, ap₂, arith}
 use Rattle.search.specs.Places as places
 use Rattle.search.specs.Stored.{built}
 use Rattle.search.specs.Marks.{steps_at}

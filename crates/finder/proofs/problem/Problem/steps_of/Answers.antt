@@ -1,7 +1,7 @@
-use Rattle.std.proofs.Common.{◌≡◌, ◌+◌, ◌<◌, ◌≤◌, Bool, List, [], ◌∷◌, ◌++◌, map, length, get_or, drop, sym, refl, ap, ◌∙◌, ap₂, arith}
+use Rattle.std.proofs.Common.{◌+◌, ◌<◌, [], ◌∷◌, ◌++◌, map, drop, sym, ap, ◌∙◌, arith}
 use Rattle.search.specs.Places as places
 use Rattle.search.specs.Stored.{no_place}
-use Rattle.search.specs.Marks.{marked_steps, renumbered, used_marks, steps_of}
+use Rattle.search.specs.Marks.{marked_steps, renumbered, steps_of}
 use Rattle.finder.specs.View.{bank_seen, candidate_seen, place_seen}
 use Rattle.finder.specs.Whole.{steps_seen, step_seen}
 use Rattle.formulas.specs.declared.steps.Steps.{Steps}

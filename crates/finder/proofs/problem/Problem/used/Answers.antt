@@ -1,4 +1,4 @@
-use Rattle.std.proofs.Common.{◌≡◌, ◌+◌, ◌-◌, get_or, sym, refl, ap, ◌∙◌, arith}
+use Rattle.std.proofs.Common.{refl, ◌∙◌, arith}
 use Rattle.finder.proofs.Seen.{some_of}
 use Rattle.finder.proofs.Counts.{down_marked, down_unmarked, marks-done}
 use Rattle.finder.proofs.problem.Problem.used.Goals as goal

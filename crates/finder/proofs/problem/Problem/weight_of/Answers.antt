@@ -1,6 +1,5 @@
-use Rattle.std.proofs.Common.{◌≡◌, ℕ, ◌<◌, ◌≤◌, List, [], ◌∷◌, length, get_or, take, sym, refl, ap, ◌∙◌, ap₂, arith}
+use Rattle.std.proofs.Common.{sym, ◌∙◌, arith}
 use Rattle.std.proofs.lemmas.List.{length-take-le}
-use Rattle.measures.specs.Weights.{values_take}
 use Rattle.finder.specs.View.{setting, bank_seen}
 use Rattle.finder.proofs.Seen.{weight_two}
 use Rattle.finder.proofs.problem.Problem.weight_of.Goals as goal

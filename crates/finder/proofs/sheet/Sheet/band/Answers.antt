@@ -1,8 +1,7 @@
-use Rattle.std.proofs.Common.{◌≡◌, ℕ, ◌<◌, ◌≤◌, length, get_or, sym, ap, ◌∙◌, arith}
-use Rattle.std.proofs.lemmas.List.{get_or-take, get_or_default, get_or_past, length-take}
+use Rattle.std.proofs.Common.{◌<◌, get_or, sym, ap, ◌∙◌, arith}
+use Rattle.std.proofs.lemmas.List.{get_or-take, get_or_default}
 use Rattle.search.specs.Stored.{no_row}
 use Rattle.rows.specs.Read.{row_seen}
-use Rattle.rows.specs.declared.row.Row.{Row}
 use Rattle.finder.proofs.Seen.{front_at, row-past}
 use Rattle.finder.proofs.sheet.Sheet.band.Goals as goal
 

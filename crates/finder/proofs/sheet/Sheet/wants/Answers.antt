@@ -1,4 +1,4 @@
-use Rattle.std.proofs.Common.{◌≡◌, ℕ, ◌<◌, ◌≤◌, length, get_or, sym, refl, ap, ◌∙◌, arith}
+use Rattle.std.proofs.Common.{◌≡◌, ℕ, sym, refl, ◌∙◌, arith}
 use Rattle.finder.proofs.Seen.{wanted_seen, wanted-more, wanted-all, wanted_not}
 use Rattle.finder.proofs.sheet.Sheet.wants.Goals as goal
 

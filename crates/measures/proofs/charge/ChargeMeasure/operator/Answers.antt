@@ -1,4 +1,4 @@
-use Rattle.std.proofs.Common.{◌+◌, sum, ap, arith, rules}
+use Rattle.std.proofs.Common.{◌+◌, sum, ap, arith}
 use Rattle.measures.specs.Weights.{values_more, values_all}
 use Rattle.measures.proofs.charge.ChargeMeasure.operator.Goals as goal
 

@@ -1,4 +1,4 @@
-use Rattle.std.proofs.Common.{◌≡◌, ◌+◌, ◌≤◌, min, max, length, take, fold}
+use Rattle.std.proofs.Common.{◌≡◌, ◌+◌, min, take}
 use Rattle.measures.specs.Depth.{heaviest}
 use Rattle.measures.specs.Values.{values}
 use Rattle.measures.proofs.depth.DepthMeasure.operator.Given as goal

@@ -1,4 +1,4 @@
-use Rattle.std.proofs.Common.{vec_items, sym, ap, ◌∙◌, arith, rules}
+use Rattle.std.proofs.Common.{vec_items, sym, rules}
 use Rattle.sheet_text.proofs.LineSteps.{bytes_none, bytes_more}
 use Rattle.sheet_text.proofs.parser.Parser.bytes.Goals as goal
 

@@ -1,4 +1,4 @@
-use Rattle.std.proofs.Common.{◌≡◌, ◌-◌, ◌≤◌, length, vec_items, vec_len}
+use Rattle.std.proofs.Common.{◌-◌, ◌≤◌, length, vec_items, vec_len}
 use Rattle.sheet_text.specs.Lines.{BytesRead}
 use Rattle.sheet_text.specs.Steps.{Onward}
 use Rattle.sheet_text.proofs.parser.Parser.bytes.Given as goal

@@ -1,4 +1,4 @@
-use Rattle.std.proofs.Common.{vec_items, ap, ◌∙◌, inl, inr, arith, rules}
+use Rattle.std.proofs.Common.{vec_items, ap, ◌∙◌, inr, arith, rules}
 use Rattle.std.proofs.lemmas.Result.{err_from_is_err_and}
 use Rattle.sheet_text.specs.Refusals.{sheet_fault}
 use Rattle.sheet_text.proofs.LineSteps.{channels-names, channels-refused}

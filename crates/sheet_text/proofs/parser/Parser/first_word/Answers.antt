@@ -1,5 +1,5 @@
-use Rattle.std.proofs.Common.{arith, rules}
-use Rattle.sheet_text.specs.Steps.{Passed, start, more}
+use Rattle.std.proofs.Common.{rules}
+use Rattle.sheet_text.specs.Steps.{start, more}
 use Rattle.sheet_text.proofs.parser.Parser.first_word.Goals as goal
 
 pub loop-part-init : goal.loop-part-init

@@ -1,4 +1,4 @@
-use Rattle.std.proofs.Common.{◌≡◌, ◌-◌, ◌≤◌, length}
+use Rattle.std.proofs.Common.{◌-◌, length}
 use Rattle.sheet_text.specs.Steps.{Passed, Onward}
 use Rattle.sheet_text.proofs.parser.Parser.first_word.Given as goal
 

@@ -1,4 +1,4 @@
-use Rattle.std.proofs.Common.{length, vec_items, sym, ap, ◌∙◌, arith, rules}
+use Rattle.std.proofs.Common.{length, vec_items, ap, ◌∙◌, arith, rules}
 use Rattle.sheet_text.proofs.LineSteps.{named_none, named_more, name-same}
 use Rattle.sheet_text.proofs.Repeats.{all_grown, word-within}
 use Rattle.sheet_text.proofs.parser.Parser.names.Goals as goal

@@ -1,4 +1,4 @@
-use Rattle.std.proofs.Common.{◌≡◌, ◌-◌, ◌≤◌, length, vec_items}
+use Rattle.std.proofs.Common.{◌-◌, length, vec_items}
 use Rattle.std.specs.List.{AllByRecursion as All}
 use Rattle.sheet_text.specs.Spans.{InText}
 use Rattle.sheet_text.specs.Lines.{Named}

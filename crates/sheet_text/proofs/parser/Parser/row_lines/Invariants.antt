@@ -1,4 +1,4 @@
-use Rattle.std.proofs.Common.{◌≡◌, ◌-◌, ◌≤◌, length, vec_len}
+use Rattle.std.proofs.Common.{◌-◌, ◌≤◌, length, vec_len}
 use Rattle.sheet_text.specs.Lines.{RowsRead}
 use Rattle.sheet_text.specs.Sheets.{row_bytes}
 use Rattle.sheet_text.specs.Steps.{Onward}

@@ -1,5 +1,4 @@
-use Rattle.std.proofs.Common.{◌≡◌, vec_items, sym, ap, ◌∙◌, inl, inr, arith, rules}
-use Rattle.std.specs.List.{AllByRecursion as All}
+use Rattle.std.proofs.Common.{vec_items, sym, ◌∙◌, inl, inr}
 use Rattle.std.proofs.lemmas.Result.{err_from_is_err_and}
 use Rattle.sheet_text.proofs.Readings.{channels-formed, rows_right}
 use Rattle.sheet_text.proofs.LineSteps.{sheet_rows}

@@ -1,5 +1,5 @@
 use Rattle.std.proofs.Common.{◌≡◌, ℕ, true, List, length, take, drop, Some, None, Ok, Option, sym, refl, ap, ◌∙◌, subst, arith, length-take-le, Bor}
-use Rattle.std.specs.List.{AllByRecursion as All}
+use Rattle.std.specs.List.{AllByRecursion}
 use Rattle.std.proofs.ByRecursion.{All-push}
 use Rattle.std.proofs.lemmas.List.Sums.{prefix_len-le-length}
 use Rattle.std.proofs.lemmas.Bool.Decides.{nat_tests}
@@ -16,11 +16,11 @@ use Rattle.sheet_text.specs.Steps.{Passed, IsFirstWord}
 use Rattle.sheet_text.specs.Texts.{Lexed, in_word, start_of, size_of}
 
 -- each row that was read is right
-pub said-rows : (channels : ℕ) (s : Lexer) (rows : List (List ℕ)) (t : Lexer) → RowsRead channels s rows t → All (SaysRow channels) rows
+pub said-rows : (channels : ℕ) (s : Lexer) (rows : List (List ℕ)) (t : Lexer) → RowsRead channels s rows t → AllByRecursion (SaysRow channels) rows
 said-rows channels s rows t lines.RowsRead.none = tt
 said-rows channels s rows t (lines.RowsRead.more before a b u p bytes h f g l) = All-push (SaysRow channels) before bytes (said-rows channels s before a h) l.2
 
-pub rows_right : (channels : ℕ) (s u : Lexer) (rows : List (List ℕ)) → RowLines channels s u (Ok rows) → All (SaysRow channels) rows
+pub rows_right : (channels : ℕ) (s u : Lexer) (rows : List (List ℕ)) → RowLines channels s u (Ok rows) → AllByRecursion (SaysRow channels) rows
 rows_right channels s u rows h = said-rows channels s rows h.0 h.1
 
 -- the bytes of a word that was taken stand in the text at its span
@@ -34,7 +34,7 @@ named_of : (text : List ℕ) (names : List Span) (name : List ℕ) → name_ok t
 named_of text names name e = grind (arith, nat_tests)
 
 -- each name that was read is well formed, and the text is the same
-pub formed-names : (s : Lexer) (names : List Span) (t : Lexer) → Named s names t → All (Formed s.text.now) names × (t.text ≡ s.text)
+pub formed-names : (s : Lexer) (names : List Span) (t : Lexer) → Named s names t → AllByRecursion (Formed s.text.now) names × (t.text ≡ s.text)
 formed-names s names t lines.Named.none = (tt, refl)
 formed-names s names t (lines.Named.more before a u p h l k) =
     let q = formed-names s before a h in
@@ -49,7 +49,7 @@ first-text : (s u : Lexer) (o : Option Part) → IsFirstWord s u o → u.text �
 first-text s u (Some p) h = h.2.4.0 ∙ passed_text s h.0 h.1
 first-text s u None h = h.2.2.0 ∙ passed_text s h.0 h.1
 
-pub channels-formed : (s u : Lexer) (names : List Span) → ChannelsLine s u (Ok names) → All (Formed s.text.now) names
+pub channels-formed : (s u : Lexer) (names : List Span) → ChannelsLine s u (Ok names) → AllByRecursion (Formed s.text.now) names
 channels-formed s u names h =
     let e : h.0.text ≡ s.text = first-text s h.0 h.2.0 h.2.1 in
-    subst (λ (text : Bor (List ℕ)). All (Formed text.now) names) e (formed-names h.0 names h.3.0 h.3.1).0
+    subst (λ (text : Bor (List ℕ)). AllByRecursion (Formed text.now) names) e (formed-names h.0 names h.3.0 h.3.1).0

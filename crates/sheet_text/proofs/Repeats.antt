@@ -3,7 +3,7 @@ use Rattle.std.specs.Str.{bytes_eq}
 use Rattle.std.proofs.lemmas.List.{drop_more, drop_all}
 use Rattle.sheet_text.specs.Spans.{name_at, repeats}
 use Rattle.rows.specs.declared.span.Span.{Span}
-use Rattle.std.specs.List.{AllByRecursion as All}
+use Rattle.std.specs.List.{AllByRecursion}
 use Rattle.std.proofs.ByRecursion.{All-push}
 use Rattle.sheet_text.specs.Texts.{Lexed, size_of, start_of}
 use Rattle.sheet_text.specs.declared.lexer.Lexer.{Lexer}
@@ -30,8 +30,8 @@ pub repeats_on : (text : List ℕ) (names : List Span) (name : List ℕ) (i : �
 repeats_on text names name i h e = sym (repeats-more text names name i h ∙ ap (λ b. b || repeats text (drop (i + 1) names) name) e)
 
 -- one more span
-pub all_grown : (P : Span → Type 0) (xs ys : List Span) (x : Span) → ys ≡ xs ++ (x ∷ []) → All P xs → P x → All P ys
-all_grown P xs ys x e h p = subst (All P) (sym e) (All-push P xs x h p)
+pub all_grown : (P : Span → Type 0) (xs ys : List Span) (x : Span) → ys ≡ xs ++ (x ∷ []) → AllByRecursion P xs → P x → AllByRecursion P ys
+all_grown P xs ys x e h p = subst (AllByRecursion P) (sym e) (All-push P xs x h p)
 
 -- a word that was taken lies within the text
 pub word-within : (s t : Lexer) (p : Part) → Lexed s t (word.Part p) → p.from + length p.bytes.now ≤ length t.text.now

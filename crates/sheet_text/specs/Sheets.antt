@@ -1,6 +1,6 @@
 -- What reading a sheet text answers.
 use Rattle.std.specs.Prelude.{◌≡◌, ℕ, ◌<◌, ◌≤◌, true, ◌⊎◌, List, map, length, Ok, Err, vec_items, vec_len, Result, Vec}
-use Rattle.std.specs.List.{AllByRecursion as All}
+use Rattle.std.specs.List.{AllByRecursion}
 use Rattle.sheet_text.specs.Lines.{SaysRow, ChannelsLine, MeasureLine, LimitLine, RowLines}
 use Rattle.sheet_text.specs.Refusals.{text_fault, ordinary}
 use Rattle.sheet_text.specs.Spans.{InText, Formed}
@@ -22,10 +22,10 @@ row_bytes rows = map vec_items (vec_items rows)
 -- as many names as channels, each within the text and well formed there; at most sixteen rows, and the bytes of each say a row
 pub record Sound (text : List ℕ) (sheet : SheetText) : Type 0 where
   pub named : vec_len sheet.names ≡ sheet.channels.value
-  pub within : All (InText (length text)) (vec_items sheet.names)
-  pub formed : All (Formed text) (vec_items sheet.names)
+  pub within : AllByRecursion (InText (length text)) (vec_items sheet.names)
+  pub formed : AllByRecursion (Formed text) (vec_items sheet.names)
   pub few : vec_len sheet.rows ≤ 16
-  pub right : All (SaysRow sheet.channels.value) (row_bytes sheet.rows)
+  pub right : AllByRecursion (SaysRow sheet.channels.value) (row_bytes sheet.rows)
 
 -- the four kinds of lines in their order, or the first fault in one of them
 abbrev pub SheetRead : Lexer → Lexer → Result SheetText Fault → Type 0

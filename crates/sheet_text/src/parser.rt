@@ -1,5 +1,5 @@
 ghost use Rattle.std.specs.Prelude.{◌≡◌, ℕ, ◌+◌, ◌<◌, ◌≤◌, true, length, IfOk, IfErr, Ok, Err, vec_items, vec_len, OnOk};
-ghost use Rattle.std.specs.List.{AllByRecursion as All};
+ghost use Rattle.std.specs.List.{AllByRecursion};
 ghost use Rattle.sheet_text.specs.Lines.{Due, SoleWord, TwoWords, after, MeasureLine, LimitLine, Names, ChannelsLine, Bytes, RowLine, RowLines};
 ghost use Rattle.sheet_text.specs.Refusals.{ordinary, ordinary_error, Heard};
 ghost use Rattle.sheet_text.specs.Sheets.{Sound, row_bytes, SheetRead};
@@ -102,7 +102,7 @@ impl<'a> Parser<'a> {
         ensures read { Heard vec_items (Names self.old.lexer self.new.lexer) result }
         ensures onward { Onward self.old.lexer self.new.lexer }
         ensures ordinary { IfErr result (λ e. ordinary_error e ≡ true) }
-        ensures within { IfOk result (λ v. All (InText (length self.old.lexer.text.now)) v.items) }
+        ensures within { IfOk result (λ v. AllByRecursion (InText (length self.old.lexer.text.now)) v.items) }
     {
         let mut names = Vec::new(self.heap);
         while let Some(part) = self.word_in_line() {
@@ -122,7 +122,7 @@ impl<'a> Parser<'a> {
         ensures line { Heard (λ v. v.0.items) (ChannelsLine self.old.lexer self.new.lexer) result }
         ensures onward { Onward self.old.lexer self.new.lexer }
         ensures ordinary { IfErr result (λ e. ordinary_error e ≡ true) }
-        ensures within { IfOk result (λ v. All (InText (length self.old.lexer.text.now)) v.0.items) }
+        ensures within { IfOk result (λ v. AllByRecursion (InText (length self.old.lexer.text.now)) v.0.items) }
         ensures count { IfOk result (λ v. vec_len v.0 ≡ v.1.value) }
     {
         let head = self.due(b"channels")?;

@@ -77,6 +77,9 @@ abbrev pub column : Setting → List StandingRow → Formula → List ℕ
 column E rows f = map (λ (r : StandingRow). value E r.bands f) rows
 
 -- the column is the wanted one
+abbrev pub Wanted : List StandingRow → List ℕ → Type 0
+Wanted rows col = col ≡ wanted_of rows
+
 abbrev pub Fits : Setting → List StandingRow → Formula → Type 0
 Fits E rows f = column E rows f ≡ wanted_of rows
 

@@ -59,3 +59,39 @@ fn readings_that_are_refused(rt: HostRuntime) -> Result<(), Fail> {
     refuses(&rt, &law, &[16, 2], 2, 0)?;
     refuses(&rt, &law, &[15, 16], 2, 1)
 }
+
+#[test]
+fn the_same_bytes_again(rt: HostRuntime) -> Result<(), Fail> {
+    let mut law = Law::new(Builtin, ChannelCount::new(2)?);
+    let mut buffer = [7; 18];
+    match law.record(&mut buffer) {
+        Ok(_) => return Err(Fail::new("written")),
+        Err(refusal) => assert_eq!(rt; refusal.number(), 8),
+    }
+    assert!(rt; law.fill(&SUM).is_ok());
+    match law.record(&mut buffer) {
+        Ok(size) => assert_eq!(rt; size, 17),
+        Err(_) => return Err(Fail::new("refused")),
+    }
+    assert!(rt; &buffer[0..17] == &SUM[..] && buffer[17] == 7);
+    let mut small = [7; 16];
+    match law.record(&mut small) {
+        Ok(_) => return Err(Fail::new("written")),
+        Err(refusal) => assert_eq!(rt; refusal.number(), 9),
+    }
+    assert!(rt; small == [7; 16]);
+    Ok(())
+}
+
+#[test]
+fn a_record_for_more_channels(rt: HostRuntime) -> Result<(), Fail> {
+    let mut law = Law::new(Builtin, ChannelCount::new(1)?);
+    match law.fill(&SUM) {
+        Ok(_) => Err(Fail::new("filled")),
+        Err(refusal) => {
+            assert_eq!(rt; refusal.number(), 17);
+            assert_eq!(rt; refusal.place(), 1);
+            Ok(())
+        }
+    }
+}

@@ -7,4 +7,6 @@ mod laws_of_readings;
 #[cfg(test)]
 mod reading;
 #[cfg(test)]
+mod worth;
+#[cfg(test)]
 mod writing;

@@ -1,13 +1,10 @@
 -- A record is read exactly where it is lawful, and then it says one formula.
 use Rattle.std.proofs.Common.{◌≡◌, ℕ, zero, suc, ◌+◌, ◌<◌, ◌≤◌, Bool, true, false, cond, ◌||◌, eqb, ltb, ◌⊎◌, List, length, Some, None, Option, sym, refl, ap, ◌∙◌, subst, inl, inr, arith}
-use Rattle.std.proofs.lemmas.List.{length-take}
 use Rattle.std.proofs.lemmas.Bool.{ltb-true, ltb-false, lt-ltb, le-ltb, eqb-true, eq-eqb, and_parts, and_from, or_parts, or_from, cond-true, cond-false, cases_lt}
 use Rattle.std.proofs.lemmas.List.FromFn.{length-map-range_with_len, get_or-map-range_with_len}
 use Rattle.operators.specs.Bands.{most_arguments, SetMeaning, SetLaws}
 use Rattle.formulas.specs.Says.{argument_of, top_arity, Known, LawfulStep, LawfulSteps, no_step, step_of}
 use Rattle.formulas.specs.declared.steps.Step.{Step}
-use Rattle.formulas.specs.Steps.{listed}
-use Rattle.formulas.specs.declared.steps.Steps.{Steps}
 use Rattle.formulas.specs.declared.steps.Top.{Top}
 use Rattle.formulas.specs.declared.steps.Top.TheVariants.{Channel, Operator}
 use Rattle.formulas.proofs.Saying.{lawful_steps_say_one}
@@ -182,7 +179,3 @@ module _ (m : SetMeaning) (laws : SetLaws m) (channels : ℕ) (bytes : List ℕ)
   lawful-says-one l =
       let o = lawful_steps_say_one m channels (steps_of bytes) (lawful_steps_of l) in
       record { formula = o.formula; formed = o.formed; says = o.says; only = o.only }
-
--- one more step is read
-pub listed-length : (s : Steps) → length (listed s) ≡ s.count
-listed-length s = let f = s.few in let w = s.whole in length-take s.count s.table ∙ omega arith

@@ -4,7 +4,7 @@ use Rattle.std.specs.List.{range_with_len, flat_map}
 use Rattle.std.proofs.lemmas.List.{length-append, length-map, get_or_append_left, get_or-append-add, get_or-map, ext_get_or}
 use Rattle.std.proofs.lemmas.List.FromFn.{length-map-range_with_len, get_or-map-range_with_len, fill_by_all}
 use Rattle.std.proofs.lemmas.Bool.{lt-ltb, le-ltb, cond-true, cond-false, cases_lt}
-use Rattle.operators.specs.Bands.{most_operators, most_arguments, SetMeaning, SetLaws}
+use Rattle.operators.specs.Bands.{most_operators, most_arguments, SetMeaning}
 use Rattle.measures.specs.Measures.{most_channels}
 use Rattle.formulas.specs.Says.{no_step, step_of, argument_of, Known, LawfulStep, LawfulSteps}
 use Rattle.formulas.specs.declared.steps.Step.{Step}
@@ -83,10 +83,9 @@ module _ (L : List Step) where
 
 -- ── reading undoes writing ──
 
-module _ (m : SetMeaning) (laws : SetLaws m) (channels : ℕ) (few : channels ≤ most_channels) where
+module _ (m : SetMeaning) (few_operators : m.count ≤ most_operators) (channels : ℕ) (few_channels : channels ≤ most_channels) where
   top_back : (t : Top) → Known m channels t → top_of (code_of t) ≡ t
   top_back (Operator k) h =
-      let f = laws.few in
       cond-true (ltb k most_operators) (Operator k) (Channel (k - most_operators)) (lt-ltb k most_operators (omega arith))
   top_back (Channel c) h =
       let e : min (most_operators + c) 255 ≡ most_operators + c = omega arith in
@@ -120,8 +119,14 @@ module _ (m : SetMeaning) (laws : SetLaws m) (channels : ℕ) (few : channels �
           steps = λ i h. let l : i < length L = omega arith in subst (λ s. LawfulStep m channels i s) (sym (step_back i l)) (lawful.each i l);
         }
 
+-- over at most 64 operators and 8 channels
+pub reads_back_few : (L : List Step) (m : SetMeaning) (channels : ℕ) → m.count ≤ most_operators → channels ≤ most_channels → LawfulSteps m channels L
+    → Lawful m channels (record_of L) × (steps_of (record_of L) ≡ L)
+reads_back_few L m channels few_operators few_channels lawful =
+    (record_lawful m few_operators channels few_channels L lawful, back m few_operators channels few_channels L lawful)
+
 pub reads_back : (L : List Step) → ReadsBack L
-reads_back L m channels laws few lawful = (record_lawful m laws channels few L lawful, back m laws channels few L lawful)
+reads_back L m channels laws few lawful = reads_back_few L m channels laws.few few lawful
 
 -- ── writing undoes reading ──
 

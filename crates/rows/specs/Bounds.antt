@@ -1,6 +1,10 @@
 -- Which channel counts and limits are refused, with the refusal's number and place.
 use Rattle.std.specs.Prelude.{ℕ, cond, ◌||◌, Some, None, Option, nat_lt}
 
+-- how many rows a sheet has at most
+abbrev pub most_rows : ℕ
+most_rows = 16
+
 -- more than eight channels
 abbrev pub channels_refusal : ℕ → Option (ℕ × ℕ)
 channels_refusal n = cond (nat_lt 8 n) (Some (6, 0)) None

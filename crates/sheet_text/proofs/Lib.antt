@@ -1,6 +1,10 @@
+pub mod Pieces
 pub mod Cuts
 pub mod Decimals
 pub mod LineSteps
 pub mod NameForms
 pub mod Readings
 pub mod Repeats
+pub mod RowsSaid
+pub mod SaidRight
+pub mod Told

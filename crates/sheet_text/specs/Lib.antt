@@ -1,6 +1,8 @@
 pub mod Forms
+pub mod Layers
 pub mod Lines
 pub mod Refusals
+pub mod Said
 pub mod Sheets
 pub mod Spans
 pub mod Steps

@@ -1,4 +1,5 @@
 ghost use Rattle.std.specs.Prelude.{◌≡◌, ◌<◌, ◌≤◌, length};
+ghost use Rattle.sheet_text.specs.Said.{Reads};
 ghost use Rattle.sheet_text.specs.Sheets.{Parsed};
 
 use crate::lexer::{Lexer, Spot};
@@ -9,7 +10,8 @@ use std::alloc::Global;
 
 // The sheet that a text of at most 4,096 bytes says, or the text's first fault.
 pub fn parse(heap: Global, text: &[u8]) -> Result<SheetText, ParseError>
-    ensures { Parsed text.now result }
+    ensures parsed { Parsed text.now result }
+    ensures reads { Reads text.now result }
 {
     if text.len() > 4096 {
         return Err(ParseError::Refused(Fault::text(

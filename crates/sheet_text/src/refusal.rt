@@ -1,6 +1,7 @@
 ghost use Rattle.std.specs.Prelude.{◌≡◌, ℕ, ◌+◌, ◌^◌, ◌<◌};
 ghost use Rattle.refusals.specs.Numbers.{sheet_refusal};
 ghost use Rattle.sheet_text.specs.Refusals.{text_refusal, fault_number, text_fault, sheet_fault, row_fault};
+ghost use Rattle.sheet_text.specs.Layers.{cause_layer, layer_seen};
 ghost use Rattle.sheet_text.specs.declared.refusal.ParseError.TheVariants.{Refused as Faulty, Memory};
 
 use crate::lexer::Spot;
@@ -37,7 +38,28 @@ pub enum Cause {
     Sheet(SheetRefusal),
 }
 
+// Where a refusal comes from: the text, a row, or what the finder would refuse.
+#[derive(Clone, Copy, PartialEq, Eq, Debug)]
+pub enum Layer {
+    Text,
+    Row,
+    Finder,
+}
+
 impl Cause {
+    pub fn layer(self) -> Layer
+        ensures { layer_seen result ≡ cause_layer self }
+    {
+        match self {
+            Cause::Text(_) => Layer::Text,
+            Cause::Sheet(SheetRefusal::Length) => Layer::Row,
+            Cause::Sheet(SheetRefusal::Band(_)) => Layer::Row,
+            Cause::Sheet(SheetRefusal::Rows) => Layer::Finder,
+            Cause::Sheet(SheetRefusal::Limit) => Layer::Finder,
+            Cause::Sheet(SheetRefusal::Channels) => Layer::Finder,
+        }
+    }
+
     pub fn number(self) -> u8
         ensures { result ≡ fault_number self }
     {

@@ -3,7 +3,7 @@ ghost use Rattle.std.specs.List.{prefix_len};
 ghost use Rattle.operators.specs.Names.{letter};
 ghost use Rattle.books.specs.Layout.{book_length, count_of, tables_at};
 ghost use Rattle.books.specs.Numbers.{refused_by};
-ghost use Rattle.books.specs.Refusal.{first as first_below, book_refusal, bad_name, bad_arity, bad_cell, begins_name, all_spaces, used as is-used};
+ghost use Rattle.books.specs.Refusal.{first as first_below, book_refusal, bad_name, bad_arity, bad_cell, begins_name, all_spaces, used as is_used};
 ghost use Rattle.books.specs.Rules.{breaks};
 
 use crate::layout::{BANDS, HEAD_WIDTH, MOST_ENTRIES, NAME_WIDTH, TABLE_WIDTH};
@@ -79,7 +79,7 @@ fn wrong_arity(book: &[u8], p: usize) -> bool
 
 // Whether an operator of this arity uses a place of its table.
 fn used(arity: u8, place: usize) -> bool
-    ensures { result ≡ is-used arity place }
+    ensures { result ≡ is_used arity place }
 {
     match arity {
         0 => place < 1,

@@ -3,7 +3,7 @@ use Rattle.std.proofs.lemmas.List.{get_or-take, get_or_default}
 use Rattle.operators.specs.Bands.{mark}
 use Rattle.formulas.specs.Says.{no_step, step_of}
 use Rattle.formulas.specs.Steps.{listed}
-use Rattle.records.proofs.Lawfulness.{listed-length}
+use Rattle.formulas.proofs.Listed.{listed-length}
 use Rattle.laws.specs.Laws.{step_band}
 use Rattle.laws.proofs.Bands.{known_more, says_inside}
 use Rattle.laws.proofs.evaluate.last_band.Goals as goal

@@ -9,7 +9,8 @@ use Rattle.formulas.specs.declared.steps.Step.{Step}
 use Rattle.formulas.specs.declared.steps.Steps.{Steps}
 use Rattle.records.specs.Bytes.{steps_in, step_at, steps_of}
 use Rattle.records.specs.Reading.{step_refusal, steps_refusal}
-use Rattle.records.proofs.Lawfulness.{first_more, first_stays, size_passes, listed-length}
+use Rattle.formulas.proofs.Listed.{listed-length}
+use Rattle.records.proofs.Lawfulness.{first_more, first_stays, size_passes}
 use Rattle.records.proofs.read.read_steps.Goals as goal
 
 pub returns-in_err-check_step : goal.returns-in_err-check_step

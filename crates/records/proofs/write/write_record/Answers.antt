@@ -4,7 +4,7 @@ use Rattle.formulas.specs.Steps.{listed}
 use Rattle.formulas.specs.declared.steps.Step.{Step}
 use Rattle.records.specs.Bytes.{two_bytes, step_code, field_of, record_of}
 use Rattle.records.specs.Writing.{Put, Puts}
-use Rattle.records.proofs.Lawfulness.{listed-length}
+use Rattle.formulas.proofs.Listed.{listed-length}
 use Rattle.records.proofs.Puts.{chain, whole}
 use Rattle.records.proofs.Roundtrip.{record_length, reads_back}
 use Rattle.records.proofs.write.write_record.Goals as goal

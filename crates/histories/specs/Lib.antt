@@ -1,0 +1,4 @@
+pub mod Answers
+pub mod Determined
+pub mod History
+pub mod Levels

@@ -1,0 +1,3 @@
+// What is promised of every list of calls to a finder, as definitions; there is no code here.
+
+#![tactic(auto)]

@@ -1,0 +1,17 @@
+pub mod Advance
+pub mod Bank
+pub mod Best
+pub mod Build
+pub mod Carrying
+pub mod Columns
+pub mod Core
+pub mod Determined
+pub mod Level
+pub mod Lists
+pub mod Marked
+pub mod Places
+pub mod Rules
+pub mod Runs
+pub mod Search
+pub mod Simulated
+pub mod Written

@@ -1,0 +1,5 @@
+pub mod Carried
+pub mod Laws
+pub mod Machine
+pub mod Steps
+pub mod Theorem

@@ -1,4 +1,5 @@
 pub mod Advance
+pub mod Agreement
 pub mod Bank
 pub mod Best
 pub mod Build

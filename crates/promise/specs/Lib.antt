@@ -1,3 +1,4 @@
+pub mod Agreement
 pub mod Carried
 pub mod Laws
 pub mod Machine

@@ -1,5 +1,5 @@
 -- Each refusal's number and place. The place is the first byte at fault, counted from 0; for a length or a number it is 0.
-use Rattle.std.specs.Prelude.{ℕ, Some, None, Ok, Err, Option, Result}
+use Rattle.std.specs.Prelude.{ℕ}
 use Rattle.books.specs.declared.refusal.BookRefusal.{BookRefusal}
 use Rattle.books.specs.declared.refusal.BookRefusal.TheVariants.{Length, Count, Name, Arity, Cell}
 
@@ -9,8 +9,3 @@ refusal_of Count = (11, 0)
 refusal_of (Arity p) = (12, p)
 refusal_of (Cell p) = (13, p)
 refusal_of (Name p) = (14, p)
-
--- the number and the place that an answer was refused with, if it was
-abbrev pub refused_by : Result Unit BookRefusal → Option (ℕ × ℕ)
-refused_by (Ok x) = None
-refused_by (Err e) = Some (refusal_of e)

@@ -1,5 +1,6 @@
-ghost use Rattle.std.specs.Prelude.{◌≡◌};
 ghost use Rattle.books.specs.Numbers.{refusal_of};
+
+use refusals::refusal::Refusal;
 
 // Why a book is refused, with the place of the first byte at fault.
 #[derive(Clone, Copy, PartialEq, Eq, Debug)]
@@ -16,10 +17,10 @@ pub enum BookRefusal {
     Cell(usize),
 }
 
-impl BookRefusal {
-    pub fn number(self) -> u8
-        ensures { result ≡ (refusal_of self).0 }
-    {
+impl Refusal for BookRefusal {
+    ghost meaning = { refusal_of };
+
+    fn number(self) -> u8 {
         match self {
             BookRefusal::Length => 10,
             BookRefusal::Count => 11,
@@ -29,9 +30,7 @@ impl BookRefusal {
         }
     }
 
-    pub fn place(self) -> usize
-        ensures { result ≡ (refusal_of self).1 }
-    {
+    fn place(self) -> usize {
         match self {
             BookRefusal::Name(place) | BookRefusal::Arity(place) | BookRefusal::Cell(place) =>
                 place,

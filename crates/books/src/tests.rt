@@ -1,6 +1,7 @@
 use crate::book::Book;
 use operators::named::Named;
 use operators::set::OperatorSet;
+use refusals::refusal::Refusal;
 use std::test::Fail;
 
 // A book of `flip`, 14 - a, and `lt`, 1 where a is below b and else 0.

@@ -2,12 +2,14 @@ ghost use Rattle.std.specs.Prelude.{◌≡◌, ◌≤◌, true, ◌↔◌, lengt
 ghost use Rattle.refusals.specs.Numbers.{refused_by};
 ghost use Rattle.records.specs.Record.{Lawful};
 ghost use Rattle.records.specs.Rewriting.{rewrite_refusal, bytes_and_room, Rewritten};
+ghost use Rattle.records.specs.declared.rewrite.RewriteRefusal.TheVariants.{Record, Firmware};
 
 use crate::read::read_record;
 use crate::write::write_record;
 use operators::set::OperatorSet;
 use refusals::firmware::FirmwareRefusal;
 use refusals::record::RecordRefusal;
+use refusals::refusal::Refusal;
 use rows::channels::ChannelCount;
 
 // Why a record is not written again.
@@ -19,23 +21,37 @@ pub enum RewriteRefusal {
     Firmware(FirmwareRefusal),
 }
 
-impl RewriteRefusal {
-    pub fn number(self) -> u8
-        ensures { result ≡ (rewrite_refusal self).0 }
-    {
+impl Refusal for RewriteRefusal {
+    ghost meaning = { rewrite_refusal };
+
+    fn number(self) -> u8 {
         match self {
             RewriteRefusal::Record(refusal) => refusal.number(),
             RewriteRefusal::Firmware(refusal) => refusal.number(),
         }
     }
 
-    pub fn place(self) -> usize
-        ensures { result ≡ (rewrite_refusal self).1 }
-    {
+    fn place(self) -> usize {
         match self {
             RewriteRefusal::Record(refusal) => refusal.place(),
             RewriteRefusal::Firmware(refusal) => refusal.place(),
         }
+    }
+}
+
+impl From<RecordRefusal> for RewriteRefusal {
+    ghost from_gives = { λ e r. r ≡ Record e };
+
+    fn from(refusal: RecordRefusal) -> RewriteRefusal {
+        RewriteRefusal::Record(refusal)
+    }
+}
+
+impl From<FirmwareRefusal> for RewriteRefusal {
+    ghost from_gives = { λ e r. r ≡ Firmware e };
+
+    fn from(refusal: FirmwareRefusal) -> RewriteRefusal {
+        RewriteRefusal::Firmware(refusal)
     }
 }
 
@@ -50,11 +66,7 @@ pub fn rewrite<S: OperatorSet>(
     ensures lawful { (is_ok result ≡ true) ↔ (Lawful (S.OperatorSet.meaning set.now) channels.value bytes.now × (length bytes.now ≤ length buffer.old)) }
     ensures written { Rewritten bytes.now buffer.old buffer.new result }
 {
-    match read_record(bytes, set, channels) {
-        Err(refusal) => Err(RewriteRefusal::Record(refusal)),
-        Ok(steps) => match write_record(&steps, buffer) {
-            Err(refusal) => Err(RewriteRefusal::Firmware(refusal)),
-            Ok(size) => Ok(size),
-        },
-    }
+    let steps = read_record(bytes, set, channels)?;
+    let size = write_record(&steps, buffer)?;
+    Ok(size)
 }

@@ -1,5 +1,6 @@
-ghost use Rattle.std.specs.Prelude.{◌≡◌};
 ghost use Rattle.refusals.specs.Numbers.{firmware_refusal};
+
+use crate::refusal::Refusal;
 
 // What the firmware that calls the library is refused. Each is about a call, so its place is 0.
 #[derive(Clone, Copy, PartialEq, Eq, Debug)]
@@ -14,10 +15,10 @@ pub enum FirmwareRefusal {
     Charge,
 }
 
-impl FirmwareRefusal {
-    pub fn number(self) -> u8
-        ensures { result ≡ (firmware_refusal self).0 }
-    {
+impl Refusal for FirmwareRefusal {
+    ghost meaning = { firmware_refusal };
+
+    fn number(self) -> u8 {
         match self {
             FirmwareRefusal::Settled => 7,
             FirmwareRefusal::NotFound => 8,
@@ -26,9 +27,7 @@ impl FirmwareRefusal {
         }
     }
 
-    pub fn place(self) -> usize
-        ensures { result ≡ (firmware_refusal self).1 }
-    {
+    fn place(self) -> usize {
         match self {
             FirmwareRefusal::Settled
             | FirmwareRefusal::NotFound

@@ -4,4 +4,5 @@
 
 pub mod firmware;
 pub mod record;
+pub mod refusal;
 pub mod sheet;

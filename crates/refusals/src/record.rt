@@ -1,5 +1,6 @@
-ghost use Rattle.std.specs.Prelude.{◌≡◌};
 ghost use Rattle.refusals.specs.Numbers.{record_refusal};
+
+use crate::refusal::Refusal;
 
 // What who hands in a record is refused.
 #[derive(Clone, Copy, PartialEq, Eq, Debug)]
@@ -14,10 +15,10 @@ pub enum RecordRefusal {
     Argument(usize),
 }
 
-impl RecordRefusal {
-    pub fn number(self) -> u8
-        ensures { result ≡ (record_refusal self).0 }
-    {
+impl Refusal for RecordRefusal {
+    ghost meaning = { record_refusal };
+
+    fn number(self) -> u8 {
         match self {
             RecordRefusal::Length => 15,
             RecordRefusal::Count => 16,
@@ -26,9 +27,7 @@ impl RecordRefusal {
         }
     }
 
-    pub fn place(self) -> usize
-        ensures { result ≡ (record_refusal self).1 }
-    {
+    fn place(self) -> usize {
         match self {
             RecordRefusal::Length | RecordRefusal::Count => 0,
             RecordRefusal::Code(step) | RecordRefusal::Argument(step) => step,

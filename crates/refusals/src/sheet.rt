@@ -1,5 +1,6 @@
-ghost use Rattle.std.specs.Prelude.{◌≡◌};
 ghost use Rattle.refusals.specs.Numbers.{sheet_refusal};
+
+use crate::refusal::Refusal;
 
 // What the technician is refused, at the sheet and at a reading.
 #[derive(Clone, Copy, PartialEq, Eq, Debug)]
@@ -16,10 +17,10 @@ pub enum SheetRefusal {
     Channels,
 }
 
-impl SheetRefusal {
-    pub fn number(self) -> u8
-        ensures { result ≡ (sheet_refusal self).0 }
-    {
+impl Refusal for SheetRefusal {
+    ghost meaning = { sheet_refusal };
+
+    fn number(self) -> u8 {
         match self {
             SheetRefusal::Length => 1,
             SheetRefusal::Band(_) => 2,
@@ -29,9 +30,7 @@ impl SheetRefusal {
         }
     }
 
-    pub fn place(self) -> usize
-        ensures { result ≡ (sheet_refusal self).1 }
-    {
+    fn place(self) -> usize {
         match self {
             SheetRefusal::Band(place) => place,
             SheetRefusal::Length

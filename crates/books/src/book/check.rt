@@ -2,7 +2,8 @@ ghost use Rattle.std.specs.Prelude.{◌≡◌, ◌<◌, length};
 ghost use Rattle.std.specs.List.{prefix_len};
 ghost use Rattle.operators.specs.Names.{letter};
 ghost use Rattle.books.specs.Layout.{book_length, count_of, tables_at};
-ghost use Rattle.books.specs.Numbers.{refused_by};
+ghost use Rattle.refusals.specs.Numbers.{refused_by};
+ghost use Rattle.books.specs.Numbers.{refusal_of};
 ghost use Rattle.books.specs.Refusal.{first as first_below, book_refusal, bad_name, bad_arity, bad_cell, begins_name, all_spaces, used as is_used};
 ghost use Rattle.books.specs.Rules.{breaks};
 
@@ -134,7 +135,7 @@ impl Rule {
 
 // Whether the bytes are a book.
 pub(crate) fn check(book: &[u8]) -> Result<(), BookRefusal>
-    ensures { refused_by result ≡ book_refusal book.now }
+    ensures { refused_by refusal_of result ≡ book_refusal book.now }
 {
     if book.is_empty() {
         return Err(BookRefusal::Length);

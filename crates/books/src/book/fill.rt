@@ -1,6 +1,7 @@
 ghost use Rattle.std.specs.Prelude.{◌≡◌, ◌<◌, [], ◌∷◌, None, Ok, Err};
 ghost use Rattle.books.specs.Layout.{count_of};
-ghost use Rattle.books.specs.Numbers.{refused_by};
+ghost use Rattle.refusals.specs.Numbers.{refused_by};
+ghost use Rattle.books.specs.Numbers.{refusal_of};
 ghost use Rattle.books.specs.Refusal.{book_refusal};
 ghost use Rattle.books.specs.Stored.{Offers, Reads};
 
@@ -42,7 +43,7 @@ impl Book {
 
     // Takes the operators of a book in place of all that were there; a refusal changes nothing.
     pub fn fill(&mut self, bytes: &[u8]) -> Result<(), BookRefusal>
-        ensures answer { refused_by result ≡ book_refusal bytes.now }
+        ensures answer { refused_by refusal_of result ≡ book_refusal bytes.now }
         ensures outcome { elim result [ Ok _ ↦ Offers bytes.now self.new | Err _ ↦ self.new ≡ self.old ] }
     {
         check(bytes)?;

@@ -1,7 +1,8 @@
 -- The steps of a formula as a list.
-use Rattle.std.specs.Prelude.{ℕ, List, take}
+use Rattle.std.specs.Prelude.{ℕ, List}
+use Rattle.fixed.specs.Listed as fixed
+use Rattle.fixed.specs.declared.list.FixedList.{FixedList}
 use Rattle.formulas.specs.declared.steps.Step.{Step}
-use Rattle.formulas.specs.declared.steps.Steps.{Steps}
 
 -- how many places the finder's bank has, each for another column
 abbrev pub most_places : ℕ
@@ -11,6 +12,10 @@ most_places = 512
 abbrev pub most_steps : ℕ
 most_steps = 513
 
+-- steps in fixed memory
+abbrev pub Steps : Type 0
+Steps = FixedList Step most_steps
+
 -- the steps that stand
 abbrev pub listed : Steps → List Step
-listed s = take s.count s.table
+listed s = fixed.listed s

@@ -1,4 +1,11 @@
-ghost use Rattle.std.specs.Prelude.{◌≡◌, ◌≤◌, length};
+ghost use Rattle.std.specs.Prelude.{◌≡◌};
+ghost use Rattle.formulas.specs.Says.{top_arity};
+
+use fixed::list::FixedList;
+use operators::set::OperatorSet;
+
+// The most steps that a formula has.
+pub const MOST_STEPS: usize = 513;
 
 // What stands at the top of a formula: a channel or an operator, by its number.
 #[derive(Clone, Copy)]
@@ -15,12 +22,25 @@ pub struct Step {
 }
 
 // The steps of a formula, in fixed memory.
-#[derive(Clone, Copy)]
-pub struct Steps {
-    pub table: [Step; 513],
-    pub count: usize,
-    ghost few: { count ≤ 513 },
-    ghost whole: { length table ≡ 513 },
+pub type Steps = FixedList<Step, MOST_STEPS>;
+
+impl Default for Step {
+    fn default() -> Step {
+        Step {
+            top: Top::Channel(0),
+            args: [0, 0],
+        }
+    }
 }
 
-pub mod list;
+impl Top {
+    // How many arguments it takes.
+    pub fn arity<S: OperatorSet>(self, set: &S) -> u8
+        ensures { result ≡ top_arity (S.OperatorSet.meaning set.now) self }
+    {
+        match self {
+            Top::Channel(_) => 0,
+            Top::Operator(op) => set.arity(op),
+        }
+    }
+}

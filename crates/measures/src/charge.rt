@@ -24,8 +24,7 @@ pub struct Charge {
 fn at(charges: &[u16], i: u8) -> u16
     ensures { result ≡ charge_at charges.now i }
 {
-    let i = i as usize;
-    if i < charges.len() { charges[i] } else { 1 }
+    charges.get(i as usize).copied().unwrap_or(1)
 }
 
 // A table of charges of 1.
@@ -36,10 +35,22 @@ fn ones<const N: usize>() -> [u16; N]
 }
 
 // Whether number `i` is one of `count` and the charge is 1 to 1,000.
-fn in_range(count: u8, i: u8, charge: u16) -> bool
+fn in_range(count: usize, i: u8, charge: u16) -> bool
     ensures { result ≡ chargeable count i charge }
 {
-    i < count && charge >= 1 && charge <= 1_000
+    (i as usize) < count && charge >= 1 && charge <= 1_000
+}
+
+// Sets the charge at number `i`; nothing changes where one of the two is out of range.
+fn set<const N: usize>(charges: &mut [u16; N], i: u8, charge: u16) -> Result<(), FirmwareRefusal>
+    ensures refused { refused_by firmware_refusal result ≡ charge_refusal N i charge }
+    ensures charges { charges.new ≡ recharged N charges.old i charge }
+{
+    if !in_range(N, i, charge) {
+        return Err(FirmwareRefusal::Charge);
+    }
+    charges[i as usize] = charge;
+    Ok(())
 }
 
 impl Charge {
@@ -60,11 +71,7 @@ impl Charge {
         ensures operators { self.new.operators ≡ recharged most_operators self.old.operators op charge }
         ensures channels { self.new.channels ≡ self.old.channels }
     {
-        if !in_range(64, op, charge) {
-            return Err(FirmwareRefusal::Charge);
-        }
-        self.operators[op as usize] = charge;
-        Ok(())
+        set(&mut self.operators, op, charge)
     }
 
     // Sets the charge of a channel; nothing changes where one of the two is out of range.
@@ -73,11 +80,7 @@ impl Charge {
         ensures operators { self.new.operators ≡ self.old.operators }
         ensures channels { self.new.channels ≡ recharged most_channels self.old.channels channel charge }
     {
-        if !in_range(8, channel, charge) {
-            return Err(FirmwareRefusal::Charge);
-        }
-        self.channels[channel as usize] = charge;
-        Ok(())
+        set(&mut self.channels, channel, charge)
     }
 }
 

@@ -2,7 +2,9 @@ pub mod Bands
 pub mod Builtin
 pub mod Mask
 pub mod Names
+pub mod Numbered
 pub mod Pair
+pub mod Sides
 pub mod Laws
 pub mod Masks
 pub mod Pairs

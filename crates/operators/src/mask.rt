@@ -1,8 +1,9 @@
-ghost use Rattle.std.specs.Prelude.{◌≡◌, ℕ, ◌<◌, List};
+ghost use Rattle.std.specs.Prelude.{◌≡◌, ℕ, ◌<◌, ◌≤◌, List, filter, length};
+ghost use Rattle.std.specs.List.{range_with_len};
 ghost use Rattle.operators.specs.Mask.{masked, mask_names, behind, set_at};
 ghost use Rattle.operators.specs.Masks.{masked_laws, masked_spelt};
 
-use crate::named::Named;
+use crate::named::{NO_NAME, Named};
 use crate::set::{MARK, OperatorSet};
 
 // Those operators of a set whose bit is 1, 0 the lowest bit, renumbered in order. Bits past the set's count mean nothing.
@@ -20,21 +21,22 @@ fn bit(bits: u64, i: u8) -> bool
     (bits >> i) % 2 == 1
 }
 
+// How many of the first n bits are 1.
+fn ones(bits: u64, n: u8) -> u8
+    requires { n ≤ 64 }
+    ensures { result ≡ length (filter (set_at bits) (range_with_len 0 n)) }
+{
+    (0..n).filter(|i| bit(bits, *i)).count() as u8
+}
+
 impl<S: OperatorSet> Mask<S> {
     // The number in the set below of the operator `op`, if it is offered.
     fn place(&self, op: u8) -> Option<u8>
         ensures { result ≡ behind self.now.bits (S.OperatorSet.meaning self.now.set) op }
     {
-        let mut seen = 0;
-        for i in 0..self.set.count() {
-            if bit(self.bits, i) {
-                if seen == op {
-                    return Some(i);
-                }
-                seen += 1;
-            }
-        }
-        None
+        (0..self.set.count())
+            .filter(|i| bit(self.bits, *i))
+            .nth(op as usize)
     }
 }
 
@@ -44,27 +46,15 @@ impl<S: OperatorSet> OperatorSet for Mask<S> {
     ghost lawful = { λ s. masked_laws (S.OperatorSet.meaning s.set) (S.OperatorSet.lawful s.set) s.bits };
 
     fn count(&self) -> u8 {
-        let mut n = 0;
-        for op in 0..self.set.count() {
-            if bit(self.bits, op) {
-                n += 1;
-            }
-        }
-        n
+        ones(self.bits, self.set.count())
     }
 
     fn arity(&self, op: u8) -> u8 {
-        match self.place(op) {
-            Some(k) => self.set.arity(k),
-            None => 0,
-        }
+        self.place(op).map_or(0, |k| self.set.arity(k))
     }
 
     fn band(&self, op: u8, args: &[u8]) -> u8 {
-        match self.place(op) {
-            Some(k) => self.set.band(k, args),
-            None => MARK,
-        }
+        self.place(op).map_or(MARK, |k| self.set.band(k, args))
     }
 }
 
@@ -76,7 +66,7 @@ impl<S: Named> Named for Mask<S> {
     fn name(&self, op: u8) -> [u8; 4] {
         match self.place(op) {
             Some(k) => self.set.name(k),
-            None => *b"    ",
+            None => NO_NAME,
         }
     }
 }

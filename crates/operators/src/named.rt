@@ -3,6 +3,9 @@ ghost use Rattle.operators.specs.Names.{NameLaws};
 
 use crate::set::OperatorSet;
 
+// The name of an operator that is not offered.
+pub const NO_NAME: [u8; 4] = *b"    ";
+
 // An operator set that also has a name of four bytes for each operator.
 pub trait Named: OperatorSet {
     ghost names: { Self → ℕ → List ℕ };

@@ -1,8 +1,9 @@
 ghost use Rattle.std.specs.Prelude.{◌≡◌, ℕ, List};
 ghost use Rattle.operators.specs.Pair.{paired, pair_names};
+ghost use Rattle.operators.specs.Sides.{side_of};
 ghost use Rattle.operators.specs.Pairs.{paired_laws, paired_spelt};
 
-use crate::named::Named;
+use crate::named::{NO_NAME, Named};
 use crate::set::{MARK, OperatorSet};
 
 // Two sets as one: the first's operators and then the second's, cut off at 64.
@@ -10,6 +11,29 @@ use crate::set::{MARK, OperatorSet};
 pub struct Pair<A, B> {
     pub first: A,
     pub second: B,
+}
+
+// The set of a pair that has an operator, with the operator's number there.
+#[derive(Clone, Copy)]
+enum Side {
+    First(u8),
+    Second(u8),
+}
+
+impl<A: OperatorSet, B: OperatorSet> Pair<A, B> {
+    // Where an operator is, if the pair offers it.
+    fn side(&self, op: u8) -> Option<Side>
+        ensures { result ≡ side_of (A.OperatorSet.meaning self.now.first) (B.OperatorSet.meaning self.now.second) op }
+    {
+        let first = self.first.count();
+        if op < first {
+            Some(Side::First(op))
+        } else if op < self.count() {
+            Some(Side::Second(op - first))
+        } else {
+            None
+        }
+    }
 }
 
 impl<A: OperatorSet, B: OperatorSet> OperatorSet for Pair<A, B> {
@@ -22,24 +46,18 @@ impl<A: OperatorSet, B: OperatorSet> OperatorSet for Pair<A, B> {
     }
 
     fn arity(&self, op: u8) -> u8 {
-        let first = self.first.count();
-        if op < first {
-            self.first.arity(op)
-        } else if op < self.count() {
-            self.second.arity(op - first)
-        } else {
-            0
+        match self.side(op) {
+            Some(Side::First(k)) => self.first.arity(k),
+            Some(Side::Second(k)) => self.second.arity(k),
+            None => 0,
         }
     }
 
     fn band(&self, op: u8, args: &[u8]) -> u8 {
-        let first = self.first.count();
-        if op < first {
-            self.first.band(op, args)
-        } else if op < self.count() {
-            self.second.band(op - first, args)
-        } else {
-            MARK
+        match self.side(op) {
+            Some(Side::First(k)) => self.first.band(k, args),
+            Some(Side::Second(k)) => self.second.band(k, args),
+            None => MARK,
         }
     }
 }
@@ -50,13 +68,10 @@ impl<A: Named, B: Named> Named for Pair<A, B> {
     ghost spelt = { λ p. paired_spelt (A.OperatorSet.meaning p.first) (B.OperatorSet.meaning p.second) (A.Named.names p.first) (B.Named.names p.second) (A.OperatorSet.lawful p.first) (A.Named.spelt p.first) (B.Named.spelt p.second) };
 
     fn name(&self, op: u8) -> [u8; 4] {
-        let first = self.first.count();
-        if op < first {
-            self.first.name(op)
-        } else if op < self.count() {
-            self.second.name(op - first)
-        } else {
-            *b"    "
+        match self.side(op) {
+            Some(Side::First(k)) => self.first.name(k),
+            Some(Side::Second(k)) => self.second.name(k),
+            None => NO_NAME,
         }
     }
 }

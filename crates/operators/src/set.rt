@@ -1,5 +1,5 @@
-ghost use Rattle.std.specs.Prelude.{◌≡◌};
-ghost use Rattle.operators.specs.Bands.{argument, SetMeaning, SetLaws};
+ghost use Rattle.std.specs.Prelude.{◌≡◌, ◌<◌, ◌≤◌};
+ghost use Rattle.operators.specs.Bands.{mark, argument, SetMeaning, SetLaws};
 
 // The band for no reading.
 pub const MARK: u8 = 15;
@@ -28,8 +28,28 @@ pub trait OperatorSet {
 pub fn arg(args: &[u8], i: usize) -> u8
     ensures { result ≡ argument args.now i }
 {
-    match args.get(i) {
-        Some(band) => (*band).min(MARK),
-        None => MARK,
+    args.get(i).map_or(MARK, |band| (*band).min(MARK))
+}
+
+// What an operator gives for one argument: the mark for the mark, else what `rule` says.
+pub fn given<F: FnOnce(u8) -> u8>(a: u8, rule: F) -> u8
+    requires { a < mark → F.pre rule a }
+    ensures marked { mark ≤ a → result ≡ mark }
+    ensures ruled { a < mark → F.post rule a result }
+{
+    if a >= MARK { MARK } else { rule(a) }
+}
+
+// The same for two arguments.
+pub fn both<F: FnOnce(u8, u8) -> u8>(a: u8, b: u8, rule: F) -> u8
+    requires { a < mark → b < mark → F.pre rule a b }
+    ensures first_marked { mark ≤ a → result ≡ mark }
+    ensures second_marked { mark ≤ b → result ≡ mark }
+    ensures ruled { a < mark → b < mark → F.post rule a b result }
+{
+    if a >= MARK || b >= MARK {
+        MARK
+    } else {
+        rule(a, b)
     }
 }

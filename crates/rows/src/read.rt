@@ -18,12 +18,7 @@ fn sound(byte: u8) -> bool
 pub fn sound_bands(bands: &[u8]) -> usize
     ensures { result ≡ sound_bands bands.now }
 {
-    for (i, b) in bands.iter().enumerate() {
-        if !sound(*b) {
-            return i;
-        }
-    }
-    bands.len()
+    bands.iter().take_while(|b| sound(**b)).count()
 }
 
 // The bytes of a row taken apart: the wanted band, then the channels' bands.
@@ -52,9 +47,7 @@ fn table(bands: &[u8]) -> [u8; 8]
     ensures { result ≡ padded bands.now }
 {
     let mut all = [15; 8];
-    for (i, b) in bands.iter().enumerate() {
-        all[i] = *b;
-    }
+    all[..bands.len()].copy_from_slice(bands);
     all
 }
 

@@ -1,17 +1,16 @@
-use Rattle.std.proofs.Common.{sym, arith, rules}
-use Rattle.std.proofs.lemmas.Option.{slice_get_past}
-use Rattle.operators.specs.Mask.{kept}
-use Rattle.operators.specs.Masks.{length_kept_more, kept_at}
+use Rattle.std.proofs.Common.{rules, ◌≡◌, ℕ, sym, ◌∙◌, arith}
+use Rattle.std.proofs.lemmas.Iterator.{YieldsList-from_range}
+use Rattle.std.proofs.lemmas.Iterator.Consumers.{nth_from_yields_List, YieldsList-from_filter}
+use Rattle.std.proofs.lemmas.Iterator.Adapters.{option_map_id}
+use Rattle.operators.specs.Mask.{set_at}
+use Rattle.operators.proofs.Kept.{kept_filter}
 use Rattle.operators.proofs.mask.Mask.place.Goals as goal
-
-pub returns-then-seen-op : goal.returns-then-seen-op
-returns-then-seen-op g c =
-    let h = kept_at c.args.self.now.bits c.loop-i.i c.count-i-end.result c.loop-i-test.true (sym c.if-bit.ensures) in
-    search rules
-
-pub loop-i-preserved : goal.loop-i-preserved
-loop-i-preserved g c = let h = length_kept_more c.args.self.now.bits c.loop-i.i in search rules
 
 pub returns : goal.returns
 returns g c =
-    let h = slice_get_past (kept c.args.self.now.bits c.loop-i.i) c.args.op (omega arith) in search rules
+    let n = (g.S.OperatorSet.meaning c.args.self.now.set).count in
+    let e : c.count.result ≡ n = c.count.ensures in
+    rw (kept_filter c.args.self.now.bits (g.S.OperatorSet.meaning c.args.self.now.set).count)
+    (sym (option_map_id c.nth.result)
+    ∙ nth_from_yields_List {v = λ (x : ℕ). x} c.nth.result _ c.args.op c.nth.ensures.ran
+        (YieldsList-from_filter _ (set_at c.args.self.now.bits) (YieldsList-from_range 0 c.count.result (g.S.OperatorSet.meaning c.args.self.now.set).count c.filter.ensures.source (omega arith)) c.filter.ensures.closure (λ x b q k. search rules)))

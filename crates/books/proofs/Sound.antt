@@ -1,6 +1,7 @@
 -- What a book that is not refused is.
-use Rattle.std.proofs.Common.{◌≡◌, ℕ, ◌+◌, ◌-◌, ◌*◌, ◌%◌, ◌<◌, ◌≤◌, Bool, true, false, cond, not, ◌&&◌, eqb, ltb, leb, List, length, get_or, take, drop, set, Some, None, Option, sym, refl, subst, ⊎_elim, arith, length-take, get_or-drop, get_or-set_other, get_or-take, get_or-set_same}
-use Rattle.std.proofs.lemmas.List.{get_or_past}
+use Rattle.std.proofs.Common.{◌≡◌, ℕ, ◌+◌, ◌-◌, ◌*◌, ◌%◌, ◌<◌, ◌≤◌, Bool, true, false, cond, not, ◌&&◌, eqb, ltb, leb, List, [], ◌∷◌, ◌++◌, length, get_or, take, drop, Some, None, Option, sym, refl, subst, ⊎_elim, arith, length-take, get_or-drop, get_or-take}
+use Rattle.std.proofs.lemmas.List.{get_or_past, get_or_append_left}
+use Rattle.std.proofs.Math.Seq.{get_or-append_seam}
 use Rattle.std.proofs.lemmas.Bool.Decides.{nat_tests}
 use Rattle.std.proofs.lemmas.Bool.{eqb-true, ltb-false, le-leb, lt-ltb, and_from, cases_lt, cases_eq}
 use Rattle.operators.specs.Bands.{mark, most_arguments}
@@ -82,9 +83,9 @@ table_ok b op s h j =
     (cases_lt j table_width)
 
 -- one entry more of a book
-pub reads_more : (b : List ℕ) (es : List Entry) (i : ℕ) (e : Entry) → i < length es → ((k : ℕ) (d : Entry) → k < i → Reads b k (get_or es k d)) → Reads b i e → (k : ℕ) (d : Entry) → k < i + 1 → Reads b k (get_or (set es i e) k d)
-reads_more b es i e h so here k d l =
+pub reads_more : (b : List ℕ) (es : List Entry) (e : Entry) → ((k : ℕ) (d : Entry) → k < length es → Reads b k (get_or es k d)) → Reads b (length es) e → (k : ℕ) (d : Entry) → k < length es + 1 → Reads b k (get_or (es ++ e ∷ []) k d)
+reads_more b es e so here k d l =
     ⊎_elim
-    (λ (same : k ≡ i). subst (λ j. Reads b j (get_or (set es i e) j d)) (sym same) (subst (λ x. Reads b i x) (sym (get_or-set_same es i e d h)) here))
-    (λ other. subst (λ x. Reads b k x) (sym (get_or-set_other es i k e d other)) (so k d (omega arith)))
-    (cases_eq k i)
+    (λ (same : k ≡ length es). subst (λ j. Reads b j (get_or (es ++ e ∷ []) j d)) (sym same) (subst (λ x. Reads b (length es) x) (sym (get_or-append_seam es e [] d)) here))
+    (λ other. let h : k < length es = omega arith in subst (λ x. Reads b k x) (sym (get_or_append_left es (e ∷ []) d k h)) (so k d h))
+    (cases_eq k (length es))

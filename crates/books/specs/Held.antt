@@ -3,7 +3,9 @@ use Rattle.std.specs.Prelude.{◌≡◌, ℕ, zero, suc, ◌+◌, ◌*◌, ◌<�
 use Rattle.std.proofs.Common.{sym, ap, subst, ◌∙◌, ⊎_elim, arith, rules}
 use Rattle.std.specs.List.{slice_get}
 use Rattle.std.proofs.lemmas.List.{get_or-take, get_or-drop}
-use Rattle.std.proofs.lemmas.Option.{slice_get-get_or}
+use Rattle.std.proofs.lemmas.Option.{slice_get-get_or, slice_get_past}
+use Rattle.fixed.specs.Listed.{listed}
+use Rattle.fixed.proofs.Lengths.{listed-length}
 use Rattle.std.proofs.lemmas.Bool.{cond-true, cond-false, lt-ltb, le-ltb, cases_lt}
 use Rattle.std.proofs.lemmas.Bool.Decides.{nat_tests}
 use Rattle.operators.specs.Bands.{mark, most_arguments, argument, SetLaws}
@@ -36,12 +38,12 @@ strict : (o : Option Entry) (xs : List ℕ) (i : ℕ) → i < arity_in o → arg
 strict (Some e) xs i h k = let n = e.narrow in search rules
 strict None xs i h k = refl
 
-absent : (book : Book) (op : ℕ) → book.count ≤ op → entry_at book op ≡ None
-absent book op h = cond-false (nat_lt op book.count) (slice_get book.entries op) None (le-ltb op book.count h)
+absent : (book : Book) (op : ℕ) → length (listed book.entries) ≤ op → entry_at book op ≡ None
+absent book op h = slice_get_past (listed book.entries) op h
 
 pub held_laws : (book : Book) → SetLaws (held_meaning book)
 held_laws book = record {
-  few = omega (arith, book.few);
+  few = let l = listed-length book.entries in let f = book.entries.few in omega arith;
   narrow = λ op. narrow (entry_at book op);
   marked = λ op xs. marked (entry_at book op) xs;
   absent_arity = λ op h. ap arity_in (absent book op h);
@@ -56,13 +58,12 @@ nth_some (x ∷ xs) zero h = (x, refl)
 nth_some (x ∷ xs) (suc i) h = nth_some xs i (omega arith)
 
 -- an operator that is offered has an entry
-offered : (book : Book) (op : ℕ) → op < book.count → (e : Entry) × (entry_at book op ≡ Some e) × (e ≡ slice_index_or book.entries op e)
+offered : (book : Book) (op : ℕ) → op < length (listed book.entries) → (e : Entry) × (entry_at book op ≡ Some e) × (e ≡ slice_index_or (listed book.entries) op e)
 offered book op h =
-    let l : op < length book.entries = omega (arith, book.few, book.full) in
-    let s = nth_some book.entries op l in
-    let g = slice_get-get_or book.entries op s.0 l in
+    let s = nth_some (listed book.entries) op h in
+    let g = slice_get-get_or (listed book.entries) op s.0 h in
     let t = s.1 in
-    (s.0, cond-true (nat_lt op book.count) (slice_get book.entries op) None (lt-ltb op book.count h) ∙ s.1, cc)
+    (s.0, s.1, cc)
 
 pub held_spelt : (book : Book) → NameLaws (held_meaning book) (held_names book)
 held_spelt book = record {
@@ -76,7 +77,7 @@ table_same cell other arity a b same =
     let s = same 0 (omega arith) in let t = same a in let u = same (15 * a + b) in grind (arith, nat_tests)
 
 -- entries that are read from bytes offer what the bytes say
-pub offers : (b : List ℕ) (book : Book) → book.count ≡ count_of b → ((k : ℕ) (d : Entry) → k < count_of b → Reads b k (slice_index_or book.entries k d)) → Offers b book
+pub offers : (b : List ℕ) (book : Book) → length (listed book.entries) ≡ count_of b → ((k : ℕ) (d : Entry) → k < count_of b → Reads b k (slice_index_or (listed book.entries) k d)) → Offers b book
 offers b book same reads =
     let here : (op : ℕ) → op < count_of b → (e : Entry) × (entry_at book op ≡ Some e) × Reads b op e =
     λ op l. let o = offered book op (omega arith) in (o.0, o.1, subst (λ (e : Entry). Reads b op e) (sym o.2) (reads op o.0 l)) in

@@ -2,7 +2,6 @@ pub mod Layout
 pub mod Meaning
 pub mod Numbers
 pub mod Refusal
-pub mod Rules
 pub mod Stored
 pub mod Held
 pub mod Spellings

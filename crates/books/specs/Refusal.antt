@@ -1,13 +1,12 @@
 -- Why a book's bytes are refused, and where: an empty book before all else, then each fault over the whole book before the next.
-use Rattle.std.specs.Prelude.{ℕ, zero, suc, ◌+◌, ◌-◌, ◌/◌, ◌%◌, Bool, true, cond, not, ◌&&◌, List, [], ◌∷◌, length, take, drop, Some, None, Option, ◌==◌, nat_le, nat_lt}
-use Rattle.std.specs.List.{prefix_len}
+use Rattle.std.specs.Prelude.{ℕ, zero, suc, ◌+◌, ◌-◌, ◌/◌, ◌%◌, Bool, true, cond, not, ◌&&◌, List, length, take, drop, Some, None, Option, ◌==◌, nat_le, nat_lt}
+use Rattle.std.specs.List.{prefix_len, list_all}
 use Rattle.operators.specs.Bands.{mark, most_arguments}
 use Rattle.operators.specs.Names.{letter, space, name_width}
 use Rattle.books.specs.Layout.{most_entries, bands, head_width, table_width, book_length, byte, count_of, arity_of, tables_at}
 
 abbrev pub all_spaces : List ℕ → Bool
-all_spaces [] = true
-all_spaces (c ∷ cs) = c == space && all_spaces cs
+all_spaces cs = list_all (λ c. c == space) cs
 
 -- whether a good name can go on after these bytes: letters, at least one, and then spaces
 abbrev pub begins_name : List ℕ → Bool
@@ -54,13 +53,15 @@ abbrev pub or_else : ℕ → Option ℕ → Option (ℕ × ℕ) → Option (ℕ 
 or_else number (Some p) after = Some (number, p)
 or_else number None after = after
 
+-- the first name at fault, then the first arity, then the first byte of a table
+abbrev pub bytes_refusal : List ℕ → Option (ℕ × ℕ)
+bytes_refusal b = or_else 14 (first (bad_name b) (length b)) (or_else 12 (first (bad_arity b) (length b)) (or_else 13 (first (bad_cell b) (length b)) None))
+
 -- the number and the place of what a book is refused for, if it is
 abbrev pub book_refusal : List ℕ → Option (ℕ × ℕ)
 book_refusal b =
     cond (length b == 0) (Some (10, 0))
     (cond (nat_lt most_entries (count_of b)) (Some (11, 0))
     (cond (length b == book_length (count_of b))
-    (or_else 14 (first (bad_name b) (length b))
-    (or_else 12 (first (bad_arity b) (length b))
-    (or_else 13 (first (bad_cell b) (length b)) None)))
+    (bytes_refusal b)
     (Some (10, 0))))

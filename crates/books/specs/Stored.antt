@@ -1,6 +1,7 @@
 -- What a book that is held means, and that it is what some bytes say.
-use Rattle.std.specs.Prelude.{◌≡◌, ℕ, cond, List, take, drop, Some, None, Option, nat_lt, slice_index}
+use Rattle.std.specs.Prelude.{◌≡◌, ℕ, List, length, take, drop, Some, None, Option, slice_index}
 use Rattle.std.specs.List.{slice_get}
+use Rattle.fixed.specs.Listed.{listed}
 use Rattle.operators.specs.Bands.{mark, argument, SetMeaning}
 use Rattle.operators.specs.Names.{blank}
 use Rattle.books.specs.Layout.{table_width, name_of, arity_of, table_at}
@@ -13,7 +14,7 @@ entry_band e a b = table_band (λ place. slice_index e.table place) e.arity a b
 
 -- the entry at a number, if it is offered
 abbrev pub entry_at : Book → ℕ → Option Entry
-entry_at book op = cond (nat_lt op book.count) (slice_get book.entries op) None
+entry_at book op = slice_get (listed book.entries) op
 
 abbrev pub arity_in : Option Entry → ℕ
 arity_in (Some e) = e.arity
@@ -29,7 +30,7 @@ name_in None = blank
 
 abbrev pub held_meaning : Book → SetMeaning
 held_meaning book = record {
-  count = book.count;
+  count = length (listed book.entries);
   arity = λ op. arity_in (entry_at book op);
   band = λ op xs. band_in (entry_at book op) xs;
 }

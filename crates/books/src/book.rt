@@ -1,15 +1,11 @@
-ghost use Rattle.std.specs.Prelude.{◌≡◌, ◌≤◌, length};
-ghost use Rattle.books.specs.Layout.{most_entries};
-
 use crate::entry::Entry;
+use crate::layout::MOST_ENTRIES;
+use fixed::list::FixedList;
 
-// The operators of an owner's book, at most eight: the first `count` entries are offered.
+// The operators of an owner's book, at most eight, in fixed memory.
 #[derive(Clone, Copy)]
 pub struct Book {
-    count: u8,
-    entries: [Entry; 8],
-    ghost few: { count ≤ most_entries },
-    ghost full: { length entries ≡ most_entries },
+    entries: FixedList<Entry, MOST_ENTRIES>,
 }
 
 mod check;

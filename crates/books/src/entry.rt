@@ -30,3 +30,9 @@ impl Entry {
         }
     }
 }
+
+impl Default for Entry {
+    fn default() -> Entry {
+        Entry::spare()
+    }
+}

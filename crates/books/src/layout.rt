@@ -1,5 +1,5 @@
 // The most operators that a book holds.
-pub(crate) const MOST_ENTRIES: u8 = 8;
+pub(crate) const MOST_ENTRIES: usize = 8;
 
 // How many bands there are, 0 to 14.
 pub(crate) const BANDS: usize = 15;

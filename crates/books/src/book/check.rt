@@ -4,20 +4,11 @@ ghost use Rattle.operators.specs.Names.{letter};
 ghost use Rattle.books.specs.Layout.{book_length, count_of, tables_at};
 ghost use Rattle.refusals.specs.Numbers.{refused_by};
 ghost use Rattle.books.specs.Numbers.{refusal_of};
-ghost use Rattle.books.specs.Refusal.{first as first_below, book_refusal, bad_name, bad_arity, bad_cell, begins_name, all_spaces, used as is_used};
-ghost use Rattle.books.specs.Rules.{breaks};
+ghost use Rattle.books.specs.Refusal.{book_refusal, bytes_refusal, bad_name, bad_arity, bad_cell, begins_name, all_spaces, used as is_used};
 
 use crate::layout::{BANDS, HEAD_WIDTH, MOST_ENTRIES, NAME_WIDTH, TABLE_WIDTH};
 use crate::refusal::BookRefusal;
 use operators::set::MARK;
-
-// What each byte of a book is tried by.
-#[derive(Clone, Copy)]
-enum Rule {
-    Names,
-    Arities,
-    Cells,
-}
 
 // Where the tables of a book begin.
 pub(crate) fn tables(book: &[u8]) -> usize
@@ -31,23 +22,13 @@ pub(crate) fn tables(book: &[u8]) -> usize
 fn letters(bytes: &[u8]) -> usize
     ensures { result ≡ prefix_len letter bytes.now }
 {
-    for (i, b) in bytes.iter().enumerate() {
-        if !b.is_ascii_lowercase() {
-            return i;
-        }
-    }
-    bytes.len()
+    bytes.iter().take_while(|b| b.is_ascii_lowercase()).count()
 }
 
 fn spaces_only(bytes: &[u8]) -> bool
     ensures { result ≡ all_spaces bytes.now }
 {
-    for b in bytes {
-        if *b != b' ' {
-            return false;
-        }
-    }
-    true
+    bytes.iter().all(|b| *b == b' ')
 }
 
 // Whether a good name can go on after these bytes: letters, at least one, and then spaces.
@@ -106,31 +87,21 @@ fn wrong_cell(book: &[u8], p: usize) -> bool
     }
 }
 
-impl Rule {
-    // Whether the byte at `p` breaks the rule.
-    fn broken(self, book: &[u8], p: usize) -> bool
-        requires { (length book.now ≡ book_length (count_of book.now)) × (p < length book.now) }
-        ensures { result ≡ breaks self book.now p }
-    {
-        match self {
-            Rule::Names => wrong_name(book, p),
-            Rule::Arities => wrong_arity(book, p),
-            Rule::Cells => wrong_cell(book, p),
-        }
+// Refuses the first name at fault, then the first arity, then the first byte of a table.
+fn check_bytes(book: &[u8]) -> Result<(), BookRefusal>
+    requires { length book.now ≡ book_length (count_of book.now) }
+    ensures { refused_by refusal_of result ≡ bytes_refusal book.now }
+{
+    if let Some(p) = (0..book.len()).find(|p| wrong_name(book, *p)) {
+        return Err(BookRefusal::Name(p));
     }
-
-    // The first byte that breaks the rule.
-    fn first(self, book: &[u8]) -> Option<usize>
-        requires { length book.now ≡ book_length (count_of book.now) }
-        ensures { result ≡ first_below (breaks self book.now) (length book.now) }
-    {
-        for p in 0..book.len() {
-            if self.broken(book, p) {
-                return Some(p);
-            }
-        }
-        None
+    if let Some(p) = (0..book.len()).find(|p| wrong_arity(book, *p)) {
+        return Err(BookRefusal::Arity(p));
     }
+    if let Some(p) = (0..book.len()).find(|p| wrong_cell(book, *p)) {
+        return Err(BookRefusal::Cell(p));
+    }
+    Ok(())
 }
 
 // Whether the bytes are a book.
@@ -140,20 +111,11 @@ pub(crate) fn check(book: &[u8]) -> Result<(), BookRefusal>
     if book.is_empty() {
         return Err(BookRefusal::Length);
     }
-    if book[0] > MOST_ENTRIES {
+    if book[0] as usize > MOST_ENTRIES {
         return Err(BookRefusal::Count);
     }
     if book.len() != 1 + (HEAD_WIDTH + TABLE_WIDTH) * book[0] as usize {
         return Err(BookRefusal::Length);
     }
-    if let Some(p) = Rule::Names.first(book) {
-        return Err(BookRefusal::Name(p));
-    }
-    if let Some(p) = Rule::Arities.first(book) {
-        return Err(BookRefusal::Arity(p));
-    }
-    if let Some(p) = Rule::Cells.first(book) {
-        return Err(BookRefusal::Cell(p));
-    }
-    Ok(())
+    check_bytes(book)
 }

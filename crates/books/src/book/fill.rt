@@ -10,6 +10,7 @@ use crate::book::check::{check, tables};
 use crate::entry::Entry;
 use crate::layout::{HEAD_WIDTH, NAME_WIDTH, TABLE_WIDTH};
 use crate::refusal::BookRefusal;
+use fixed::list::FixedList;
 
 // The entry `op` of bytes that are a book.
 fn read(book: &[u8], op: u8) -> Entry
@@ -35,10 +36,8 @@ impl Book {
     pub fn empty() -> Book
         ensures { Offers (0 ∷ []) result }
     {
-        Book {
-            count: 0,
-            entries: [Entry::spare(); 8],
-        }
+        let entries = FixedList::empty();
+        Book { entries }
     }
 
     // Takes the operators of a book in place of all that were there; a refusal changes nothing.
@@ -47,12 +46,11 @@ impl Book {
         ensures outcome { elim result [ Ok _ ↦ Offers bytes.now self.new | Err _ ↦ self.new ≡ self.old ] }
     {
         check(bytes)?;
-        let count = bytes[0];
-        let mut entries = [Entry::spare(); 8];
-        for op in 0..count {
-            entries[op as usize] = read(bytes, op);
+        let mut entries = FixedList::empty();
+        for op in 0..bytes[0] {
+            let _ = entries.push(read(bytes, op));
         }
-        *self = Book { count, entries };
+        *self = Book { entries };
         Ok(())
     }
 }

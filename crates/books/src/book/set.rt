@@ -6,7 +6,7 @@ ghost use Rattle.books.specs.Held.{held_laws, held_spelt};
 use crate::book::Book;
 use crate::entry::Entry;
 use crate::layout::BANDS;
-use operators::named::Named;
+use operators::named::{NO_NAME, Named};
 use operators::set::{MARK, OperatorSet, arg};
 
 impl Entry {
@@ -31,11 +31,7 @@ impl Book {
     fn get(&self, op: u8) -> Option<Entry>
         ensures { result ≡ entry_at self.now op }
     {
-        if op < self.count {
-            Some(self.entries[op as usize])
-        } else {
-            None
-        }
+        self.entries.as_slice().get(op as usize).copied()
     }
 }
 
@@ -45,21 +41,16 @@ impl OperatorSet for Book {
     ghost lawful = { λ s. held_laws s };
 
     fn count(&self) -> u8 {
-        self.count
+        self.entries.len() as u8
     }
 
     fn arity(&self, op: u8) -> u8 {
-        match self.get(op) {
-            Some(entry) => entry.arity,
-            None => 0,
-        }
+        self.get(op).map_or(0, |entry| entry.arity)
     }
 
     fn band(&self, op: u8, args: &[u8]) -> u8 {
-        match self.get(op) {
-            Some(entry) => entry.band(arg(args, 0), arg(args, 1)),
-            None => MARK,
-        }
+        self.get(op)
+            .map_or(MARK, |entry| entry.band(arg(args, 0), arg(args, 1)))
     }
 }
 
@@ -71,7 +62,7 @@ impl Named for Book {
     fn name(&self, op: u8) -> [u8; 4] {
         match self.get(op) {
             Some(entry) => entry.name,
-            None => *b"    ",
+            None => NO_NAME,
         }
     }
 }

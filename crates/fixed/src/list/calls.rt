@@ -19,7 +19,7 @@ impl<T: Copy, const N: usize> FixedList<T, N> {
     pub fn len(&self) -> usize
         ensures { result ≡ length (listed self.now) }
     {
-        self.count
+        self.as_slice().len()
     }
 
     // Puts a value last; nothing changes where there is no room.

@@ -1,5 +1,5 @@
 -- What writing into a buffer leaves in it.
-use Rattle.std.specs.Prelude.{◌≡◌, ℕ, ◌+◌, ◌<◌, ◌≤◌, List, ◌++◌, length, take, drop, Ok, Err, Result}
+use Rattle.std.specs.Prelude.{◌≡◌, ℕ, ◌<◌, ◌≤◌, List, ◌++◌, length, drop, Ok, Err, Result}
 use Rattle.refusals.specs.Numbers.{firmware_refusal}
 use Rattle.refusals.specs.declared.firmware.FirmwareRefusal.{FirmwareRefusal}
 use Rattle.operators.specs.Bands.{SetMeaning, SetLaws}
@@ -8,16 +8,6 @@ use Rattle.formulas.specs.Says.{LawfulSteps}
 use Rattle.formulas.specs.declared.steps.Step.{Step}
 use Rattle.records.specs.Bytes.{steps_of, record_of}
 use Rattle.records.specs.Record.{Lawful}
-
--- t is s with the bytes written from i on, and r is the place behind them
-pub record Put (s t : List ℕ) (i r : ℕ) (bytes : List ℕ) : Type 0 where
-  pub behind : r ≡ i + length bytes
-  pub front : take r t ≡ take i s ++ bytes
-  pub rest : drop r t ≡ drop r s
-
--- the same, where there is room
-abbrev pub Puts : List ℕ → List ℕ → ℕ → ℕ → List ℕ → Type 0
-Puts s t i r bytes = i + length bytes ≤ length s → Put s t i r bytes
 
 -- the bytes stand in the front of the buffer, s before and t after, and the rest is as it was; where there is no room for them the
 -- answer is 9 and the whole buffer is as it was

@@ -3,6 +3,7 @@
 #![tactic(auto)]
 
 mod bytes;
+mod code;
 pub mod examples;
 pub mod read;
 pub mod rewrite;

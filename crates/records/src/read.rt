@@ -1,40 +1,58 @@
 ghost use Rattle.std.specs.Prelude.{◌≡◌, ◌<◌, ◌≤◌, true, ◌↔◌, is_ok, IfOk, Some, None, Ok, Err, OnOk};
 ghost use Rattle.refusals.specs.Numbers.{record_refusal, refused_by};
-ghost use Rattle.formulas.specs.Says.{top_arity, LawfulSteps};
+ghost use Rattle.formulas.specs.Says.{LawfulSteps};
 ghost use Rattle.formulas.specs.Steps.{listed, most_steps};
-ghost use Rattle.records.specs.Bytes.{steps_in, top_of, step_at, steps_of};
+ghost use Rattle.records.specs.Bytes.{steps_in, step_at, steps_of};
 ghost use Rattle.records.specs.Record.{Lawful, SaysOneFormula};
 ghost use Rattle.records.specs.Reading.{known_top, argument_fits, arguments_fit, step_refusal, size_refusal, bytes_refusal};
 
 use crate::bytes::{byte, number};
-use crate::size::{FIELD_WIDTH, FIRST_CHANNEL, MOST_STEPS, record_size};
-use formulas::steps::{Step, Steps, Top};
+use crate::code::Code;
+use crate::size::{FIELD_WIDTH, record_size};
+use formulas::steps::{MOST_STEPS, Step, Steps, Top};
 use operators::set::OperatorSet;
 use refusals::record::RecordRefusal;
 use rows::channels::ChannelCount;
 
-// The channel or the operator of a code.
-fn top(code: u8) -> Top
-    ensures { result ≡ top_of code }
-{
-    if code < FIRST_CHANNEL {
-        Top::Operator(code)
-    } else {
-        Top::Channel(code - FIRST_CHANNEL)
-    }
+// The bytes of a record, whose number of steps is 1 to 513 and whose length is what that asks for.
+#[derive(Clone, Copy)]
+struct Record<'a> {
+    bytes: &'a [u8],
+    count: usize,
+    ghost counted: { count ≡ steps_in bytes.now },
+    ghost some: { 1 ≤ count },
+    ghost few: { count ≤ most_steps },
 }
 
-// Step `i` of a record of `n` steps.
-fn step(bytes: &[u8], n: usize, i: usize) -> Step
-    requires steps { n ≡ steps_in bytes.now }
-    requires few { n ≤ most_steps }
-    requires within { i < n }
-    ensures { result ≡ step_at bytes.now i }
-{
-    let field = 2 + (n + FIELD_WIDTH * i);
-    Step {
-        top: top(byte(bytes, 2 + i)),
-        args: [number(bytes, field), number(bytes, field + 2)],
+impl<'a> Record<'a> {
+    // The bytes as a record of as many steps as their first two say.
+    fn sized(bytes: &'a [u8]) -> Result<Record<'a>, RecordRefusal>
+        ensures refused { refused_by record_refusal result ≡ size_refusal bytes.now None }
+        ensures same { IfOk result (λ r. r.bytes.now ≡ bytes.now) }
+    {
+        if bytes.len() < 2 {
+            return Err(RecordRefusal::Length);
+        }
+        let n = number(bytes, 0) as usize;
+        if n < 1 || n > MOST_STEPS {
+            return Err(RecordRefusal::Count);
+        }
+        if bytes.len() != record_size(n) {
+            return Err(RecordRefusal::Length);
+        }
+        Ok(Record { bytes, count: n })
+    }
+
+    // Step `i`, counted from 0.
+    fn step(&self, i: usize) -> Step
+        requires { i < self.now.count }
+        ensures { result ≡ step_at self.now.bytes.now i }
+    {
+        let field = 2 + (self.count + FIELD_WIDTH * i);
+        Step {
+            top: Top::from(Code(byte(self.bytes, 2 + i))),
+            args: [number(self.bytes, field), number(self.bytes, field + 2)],
+        }
     }
 }
 
@@ -45,16 +63,6 @@ fn known<S: OperatorSet>(top: Top, set: &S, channels: ChannelCount) -> bool
     match top {
         Top::Channel(channel) => channel < channels.get(),
         Top::Operator(op) => op < set.count(),
-    }
-}
-
-// How many arguments it takes.
-fn arity<S: OperatorSet>(top: Top, set: &S) -> u8
-    ensures { result ≡ top_arity (S.OperatorSet.meaning set.now) top }
-{
-    match top {
-        Top::Channel(_) => 0,
-        Top::Operator(op) => set.arity(op),
     }
 }
 
@@ -89,28 +97,10 @@ fn check_step<S: OperatorSet>(
     if !known(step.top, set, channels) {
         return Err(RecordRefusal::Code(i));
     }
-    if !all_fit(arity(step.top, set), i, step) {
+    if !all_fit(step.top.arity(set), i, step) {
         return Err(RecordRefusal::Argument(i));
     }
     Ok(())
-}
-
-// The number of steps, where there are 1 to 513 and the record is as long as they ask for.
-fn step_count(bytes: &[u8]) -> Result<usize, RecordRefusal>
-    ensures refused { refused_by record_refusal result ≡ size_refusal bytes.now None }
-    ensures number { IfOk result (λ n. (n ≡ steps_in bytes.now) × (1 ≤ n) × (n ≤ most_steps)) }
-{
-    if bytes.len() < 2 {
-        return Err(RecordRefusal::Length);
-    }
-    let n = number(bytes, 0) as usize;
-    if n < 1 || n > MOST_STEPS {
-        return Err(RecordRefusal::Count);
-    }
-    if bytes.len() != record_size(n) {
-        return Err(RecordRefusal::Length);
-    }
-    Ok(n)
 }
 
 // The steps of a record, or why it is refused.
@@ -122,12 +112,13 @@ fn read_steps<S: OperatorSet>(
     ensures refused { refused_by record_refusal result ≡ bytes_refusal (S.OperatorSet.meaning set.now) channels.value bytes.now }
     ensures steps { IfOk result (λ s. listed s ≡ steps_of bytes.now) }
 {
-    let n = step_count(bytes)?;
+    let record = Record::sized(bytes)?;
     let mut steps = Steps::empty();
-    for i in 0..n {
-        let next = step(bytes, n, i);
-        check_step(next, i, set, channels)?;
-        let _ = steps.push(next);
+    for i in 0..record.count {
+        let step = record.step(i);
+        check_step(step, i, set, channels)?;
+        // there is room for 513 steps
+        let _ = steps.push(step);
     }
     Ok(steps)
 }

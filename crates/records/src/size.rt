@@ -1,9 +1,6 @@
 ghost use Rattle.std.specs.Prelude.{◌≡◌, ◌≤◌};
 ghost use Rattle.records.specs.Size.{record_size};
 
-// The most steps that a formula has.
-pub const MOST_STEPS: usize = 513;
-
 // Codes below this are operator numbers, any other is this plus a channel number.
 pub(crate) const FIRST_CHANNEL: u8 = 64;
 

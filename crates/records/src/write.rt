@@ -1,56 +1,21 @@
-ghost use Rattle.std.specs.Prelude.{◌≡◌, ◌<◌, [], ◌∷◌, map, length, OnOk, slice_set};
+ghost use Rattle.std.specs.Prelude.{◌≡◌, map, OnOk};
 ghost use Rattle.std.specs.List.{flat_map};
 ghost use Rattle.formulas.specs.Steps.{listed};
-ghost use Rattle.records.specs.Bytes.{two_bytes, code_of, step_code, field_of, record_of};
-ghost use Rattle.records.specs.Writing.{Puts, Written, ReadsBack};
+ghost use Rattle.records.specs.Bytes.{two_bytes, step_code, field_of, record_of};
+ghost use Rattle.lent.specs.Puts.{Puts};
+ghost use Rattle.records.specs.Writing.{Written, ReadsBack};
 
-use crate::size::{FIRST_CHANNEL, record_size};
-use formulas::steps::{Step, Steps, Top};
+use crate::code::Code;
+use crate::size::record_size;
+use formulas::steps::{Step, Steps};
+use lent::put::put;
 use refusals::firmware::FirmwareRefusal;
 
-// The code of a channel or an operator.
-fn code(top: Top) -> u8
-    ensures { result ≡ code_of top }
+// A number in two bytes, high byte first.
+fn two_bytes(number: u16) -> [u8; 2]
+    ensures { result ≡ two_bytes number }
 {
-    match top {
-        Top::Operator(op) => op,
-        Top::Channel(channel) => FIRST_CHANNEL.saturating_add(channel),
-    }
-}
-
-// Writes one byte.
-fn set_byte(out: &mut [u8], at: usize, byte: u8)
-    requires { at < length out.old }
-    ensures { out.new ≡ slice_set out.old at byte }
-{
-    out[at] = byte;
-}
-
-// Writes one byte at `from`, where there is room, and answers the place behind it.
-fn put_byte(out: &mut [u8], from: usize, byte: u8) -> usize
-    ensures { Puts out.old out.new from result (byte ∷ []) }
-{
-    if from >= out.len() {
-        return from;
-    }
-    set_byte(out, from, byte);
-    from + 1
-}
-
-// The high and the low byte of a number.
-fn halves(number: u16) -> (u8, u8)
-    ensures { result.0 ∷ (result.1 ∷ []) ≡ two_bytes number }
-{
-    ((number / 256) as u8, (number % 256) as u8)
-}
-
-// Writes a number in two bytes, high byte first.
-fn put_number(out: &mut [u8], from: usize, number: u16) -> usize
-    ensures { Puts out.old out.new from result (two_bytes number) }
-{
-    let (high, low) = halves(number);
-    let next = put_byte(out, from, high);
-    put_byte(out, next, low)
+    number.to_be_bytes()
 }
 
 // Writes the codes of the steps.
@@ -59,7 +24,8 @@ fn put_codes(out: &mut [u8], from: usize, steps: &[Step]) -> usize
 {
     let mut at = from;
     for step in steps {
-        at = put_byte(out, at, code(step.top));
+        let code = Code::from(step.top);
+        at = put(out, at, &[code.0]);
     }
     at
 }
@@ -69,8 +35,8 @@ fn put_field(out: &mut [u8], from: usize, step: Step) -> usize
     ensures { Puts out.old out.new from result (field_of step) }
 {
     let [first, second] = step.args;
-    let next = put_number(out, from, first);
-    put_number(out, next, second)
+    let next = put(out, from, &two_bytes(first));
+    put(out, next, &two_bytes(second))
 }
 
 // Writes the arguments of the steps.
@@ -90,12 +56,11 @@ pub fn write_record(steps: &Steps, buffer: &mut [u8]) -> Result<usize, FirmwareR
     ensures written { Written (record_of (listed steps.now)) buffer.old buffer.new result }
     ensures back { OnOk result (ReadsBack (listed steps.now)) }
 {
-    let n = steps.count;
-    if buffer.len() < record_size(n) {
+    let list = steps.as_slice();
+    if buffer.len() < record_size(list.len()) {
         return Err(FirmwareRefusal::Room);
     }
-    let list = steps.as_slice();
-    let codes = put_number(buffer, 0, n as u16);
+    let codes = put(buffer, 0, &two_bytes(list.len() as u16));
     let fields = put_codes(buffer, codes, list);
     Ok(put_fields(buffer, fields, list))
 }

@@ -4,7 +4,7 @@ use Rattle.refusals.specs.declared.record.RecordRefusal.{RecordRefusal}
 use Rattle.operators.specs.Bands.{SetMeaning, SetLaws}
 use Rattle.formulas.specs.Says.{LawfulSteps}
 use Rattle.formulas.specs.Steps.{listed}
-use Rattle.formulas.specs.declared.steps.Steps.{Steps}
+use Rattle.formulas.specs.Steps.{Steps}
 use Rattle.records.specs.Bytes.{steps_of}
 use Rattle.records.specs.Record.{Lawful, SaysOneFormula}
 use Rattle.records.specs.Reading.{bytes_refusal}

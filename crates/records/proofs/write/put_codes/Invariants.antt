@@ -1,6 +1,6 @@
 use Rattle.std.proofs.Common.{map, take}
 use Rattle.records.specs.Bytes.{step_code}
-use Rattle.records.specs.Writing.{Puts}
+use Rattle.lent.specs.Puts.{Puts}
 use Rattle.records.proofs.write.put_codes.Given as goal
 
 abbrev pub invariant-loop-step : goal.invariant-loop-step

@@ -1,8 +1,9 @@
 use Rattle.std.proofs.Common.{get_or, take, subst}
 use Rattle.std.specs.List.{flat_map}
 use Rattle.records.specs.Bytes.{field_of}
-use Rattle.records.specs.Writing.{Puts}
-use Rattle.records.proofs.Puts.{chain, fields_more, fields_all}
+use Rattle.lent.specs.Puts.{Puts}
+use Rattle.lent.proofs.Chains.{chain}
+use Rattle.records.proofs.Puts.{fields_more, fields_all}
 use Rattle.records.proofs.write.put_fields.Goals as goal
 
 pub loop-step-preserved : goal.loop-step-preserved

@@ -1,7 +1,7 @@
 use Rattle.std.proofs.Common.{take}
 use Rattle.std.specs.List.{flat_map}
 use Rattle.records.specs.Bytes.{field_of}
-use Rattle.records.specs.Writing.{Puts}
+use Rattle.lent.specs.Puts.{Puts}
 use Rattle.records.proofs.write.put_fields.Given as goal
 
 abbrev pub invariant-loop-step : goal.invariant-loop-step

@@ -1,0 +1,17 @@
+use Rattle.std.proofs.Common.{◌+◌, ◌-◌, ◌++◌, length, take, refl, ap, ◌∙◌, arith}
+use Rattle.std.proofs.lemmas.Slice.{take-put_mid, drop-put_mid}
+use Rattle.lent.proofs.put.put.Goals as goal
+
+pub returns : goal.returns
+returns c h =
+    let i = c.args.from in
+    let s = c.args.out.now in
+    let n = length c.args.bytes.now in
+    let ys = c.copy_from_slice.new.self in
+    let same = c.copy_from_slice.ensures.after in
+    let sizes = ap length same in
+    record {
+      behind = refl;
+      front = take-put_mid i ((i + n) - i) s ys (i + n) (omega arith) (omega arith) ∙ ap (λ l. take i s ++ l) same;
+      rest = drop-put_mid i ((i + n) - i) s ys (i + n) (omega arith) (omega arith) (omega arith);
+    }

@@ -1,0 +1,5 @@
+// Buffers that a caller lends, written from the front on.
+
+#![tactic(auto)]
+
+pub mod put;

@@ -1,29 +1,17 @@
 -- Values worked out step by step are those of the formulas that the steps say, for every rule that the formulas' values go by.
 use Rattle.std.proofs.Common.{◌≡◌, ℕ, zero, suc, ◌+◌, ◌-◌, ◌<◌, ◌≤◌, List, [], ◌∷◌, map, length, get_or, take, set, sym, refl, ap, ◌∙◌, subst, ap₂, inl, inr, arith}
 use Rattle.std.specs.List.{range_with_len}
-use Rattle.std.proofs.lemmas.List.{get_or-set_same, get_or-set_other, get_or-take, get_or_default}
+use Rattle.std.proofs.lemmas.List.{get_or-set_same, get_or-set_other}
 use Rattle.std.proofs.lemmas.List.FromFn.{take-map-range_with_len}
 use Rattle.std.proofs.lemmas.Bool.{cases_eq, cases_lt}
 use Rattle.operators.specs.Bands.{most_arguments, SetMeaning}
 use Rattle.measures.specs.Measures.{MeasureMeaning}
-use Rattle.measures.specs.Values.{values}
-use Rattle.measures.specs.declared.weight.Weight.{Weight}
 use Rattle.formulas.specs.Formula.{Formula, Formulas, channel, operator, nil, cons, count, band, bands, weighed, all_weighed}
-use Rattle.formulas.specs.Says.{no_step, step_of, argument_of, top_arity, StepSays, ArgumentsSay, StepsSay}
-use Rattle.formulas.specs.Steps.{listed}
+use Rattle.formulas.specs.Says.{step_of, argument_of, top_arity, StepSays, ArgumentsSay, StepsSay}
 use Rattle.formulas.specs.declared.steps.Step.{Step}
-use Rattle.formulas.specs.declared.steps.Steps.{Steps}
 use Rattle.formulas.specs.declared.steps.Top.{Top}
 use Rattle.formulas.specs.declared.steps.Top.TheVariants.{Operator}
-use Rattle.formulas.proofs.Listed.{listed-length}
-use Rattle.evaluation.specs.Values.{Rule, band_rule, weight_rule, top_value, argument_values, step_value}
-
--- the values of formulas go by a rule
-pub record GoesBy (rule : Rule) (value : Formula → ℕ) (values : Formulas → List ℕ) : Type 0 where
-  pub on_channel : (c : ℕ) → rule.channel c ≡ value (channel c)
-  pub on_operator : (k : ℕ) (fs : Formulas) → rule.operator k (values fs) ≡ value (operator k fs)
-  pub on_none : values nil ≡ []
-  pub on_more : (f : Formula) (fs : Formulas) → values (cons f fs) ≡ value f ∷ values fs
+use Rattle.evaluation.specs.Values.{Rule, GoesBy, band_rule, weight_rule, top_value, argument_values, step_value}
 
 pub bands-go : (m : SetMeaning) (reading : List ℕ) → GoesBy (band_rule m reading) (band m reading) (bands m reading)
 bands-go m reading = record { on_channel = λ c. refl; on_operator = λ k fs. refl; on_none = refl; on_more = λ f fs. refl }
@@ -74,26 +62,21 @@ operator-value m rule d earlier s op n args top narrow arity are =
     ∙ ap (rule.operator op) (take-map-range_with_len (λ j. get_or earlier (argument_of s j) d) 0 most_arguments (m.arity op) narrow)
     ∙ sym (ap (λ (t : Top). top_value rule (given (top_arity m t)) t) top)
 
--- ── the table of steps ──
-
--- a step that stands, as it is read
-pub table_step : (s : Steps) (i : ℕ) (d : Step) → i < s.count → get_or s.table i d ≡ step_of (listed s) i
-table_step s i d l = let few = s.few in let whole = s.whole in get_or_default s.table i d no_step (omega arith) ∙ sym (get_or-take s.count s.table i no_step l)
+-- ── the steps ──
 
 says_inside : (m : SetMeaning) (steps : List Step) (i : ℕ) (f : Formula) → StepSays m steps i f → i < length steps
 says_inside m steps i (channel c) says = says.0
 says_inside m steps i (operator k fs) says = says.0
 
 -- the value of the last step, once all are known
-pub last_value : (m : SetMeaning) (value : Formula → ℕ) (s : Steps) (d i : ℕ) (table : List ℕ) → KnownBelow m value (listed s) d i table → s.count ≤ i → (f : Formula) → StepsSay m (listed s) f → get_or table (s.count - 1) d ≡ value f
-last_value m value s d i table known all f says =
-    let n : length (listed s) ≡ s.count = listed-length s in
-    let inside = says_inside m (listed s) (length (listed s) - 1) f says in
-    ap (λ k. get_or table (k - 1) d) (sym n) ∙ known (length (listed s) - 1) (omega arith) f says
+pub last_value : (m : SetMeaning) (value : Formula → ℕ) (steps : List Step) (d i : ℕ) (table : List ℕ) → KnownBelow m value steps d i table → length steps ≤ i → (f : Formula) → StepsSay m steps f → get_or table (length steps - 1) d ≡ value f
+last_value m value steps d i table known all f says =
+    let inside = says_inside m steps (length steps - 1) f says in
+    known (length steps - 1) (omega arith) f says
 
--- ── the plain numbers of weights ──
+-- ── the plain numbers of values ──
 
-pub values-at : (ws : List Weight) (i : ℕ) (w : Weight) → get_or (values ws) i w.value ≡ (get_or ws i w).value
-values-at [] i w = refl
-values-at (v ∷ ws) zero w = refl
-values-at (v ∷ ws) (suc i) w = values-at ws i w
+pub at_map : {T : Type 0} (number : T → ℕ) (xs : List T) (i : ℕ) (x : T) → get_or (map number xs) i (number x) ≡ number (get_or xs i x)
+at_map number [] i x = refl
+at_map number (y ∷ ys) zero x = refl
+at_map number (y ∷ ys) (suc i) x = at_map number ys i x

@@ -27,8 +27,9 @@ pub fn column_of<S: OperatorSet>(
     ensures { ColumnIn (S.OperatorSet.meaning set.now) channels.value (listed steps.now) rows.now result }
 {
     let mut bands = [MARK; 16];
-    for i in 0..rows.len().min(16) {
-        bands[i] = band_of(steps, set, reading(&rows[i], channels));
+    let first = &rows[..rows.len().min(16)];
+    for (i, row) in first.iter().enumerate() {
+        bands[i] = band_of(steps, set, reading(row, channels));
     }
     bands
 }

@@ -6,3 +6,4 @@ pub mod band;
 pub mod column;
 mod table;
 pub mod weight;
+mod worth;

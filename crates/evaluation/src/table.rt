@@ -9,7 +9,7 @@ use formulas::steps::Step;
 pub(crate) fn at<T: Copy>(table: &[T], i: usize, other: T) -> T
     ensures { result ≡ slice_index_or table.now i other }
 {
-    if i < table.len() { table[i] } else { other }
+    table.get(i).copied().unwrap_or(other)
 }
 
 // The entries of a step's arguments.

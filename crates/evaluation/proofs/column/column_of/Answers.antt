@@ -1,4 +1,4 @@
-use Rattle.std.proofs.Common.{◌≡◌, List, map, length, get_or, sym, ap, ◌∙◌, arith, length-set}
+use Rattle.std.proofs.Common.{◌≡◌, List, map, length, get_or, sym, ap, ◌∙◌, arith, length-set, get_or-take, length-take}
 use Rattle.std.proofs.lemmas.List.{length-map, get_or-map}
 use Rattle.rows.specs.Rows.{StandingRow}
 use Rattle.rows.specs.Read.{row_seen}
@@ -19,9 +19,9 @@ loop-i-preserved g c =
     let t = c.loop-i-test.true in
     let long : length c.loop-i.bands ≡ 16 = c.loop-i.invariant.0 in
     let wide : length seen ≡ length rows = length-map rows (row_seen n) in
-    let within = c.min-i-end.ensures in
-    let row : Row = c.index-rows-i.result in
-    let here : row ≡ get_or rows i row = c.index-rows-i.is in
+    let within = c.min.ensures in let few = length-take c.min.result c.args.rows.now in
+    let row : Row = c.index-first-i.result in
+    let here : row ≡ get_or rows i row = c.index-first-i.is ∙ get_or-take c.min.result rows i row (omega arith) in
     let at : get_or seen i (row_seen n row) ≡ row_seen n (get_or rows i row) = get_or-map (row_seen n) rows i row (row_seen n row) (omega arith) in (
       length-set c.loop-i.bands i b ∙ long,
       λ v f says. filled_more (over m n v) seen f c.loop-i.bands i b (row_seen n row) (c.loop-i.invariant.1 v f says) (omega arith) (omega arith)
@@ -35,5 +35,5 @@ returns g c v f says =
     let seen : List StandingRow = map (row_seen n) c.args.rows.now in
     let wide : length seen ≡ length c.args.rows.now = length-map c.args.rows.now (row_seen n) in
     let t = c.loop-i-test.false in
-    let within = c.min-i-end.ensures in
+    let within = c.min.ensures in let few = length-take c.min.result c.args.rows.now in
     c.loop-i.invariant.1 v f says ∙ filled_all (over m n v) seen f c.loop-i.i (omega arith)

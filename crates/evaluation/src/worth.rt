@@ -1,0 +1,64 @@
+ghost use Rattle.std.specs.Prelude.{◌≡◌, ℕ, ◌*◌, ◌^◌, ◌<◌, List, map};
+ghost use Rattle.std.specs.Mem.{type_size};
+ghost use Rattle.formulas.specs.Formula.{Formula, Formulas};
+ghost use Rattle.formulas.specs.Says.{StepsSay};
+ghost use Rattle.formulas.specs.Steps.{listed};
+ghost use Rattle.evaluation.specs.Values.{Rule, GoesBy, step_value};
+
+use crate::table::{arguments, at};
+use formulas::steps::{MOST_STEPS, Step, Steps, Top};
+use operators::set::OperatorSet;
+
+// What each channel is worth, and each operator over what its arguments are worth, as bands at a reading or weights under a measure.
+pub(crate) trait Worth {
+    type Value: Copy;
+
+    // The plain number of a value.
+    ghost number: { Self.Value → ℕ };
+
+    ghost rule: { Self → Rule };
+
+    // What stands where there is no value.
+    ghost absent: { ℕ };
+
+    fn absent(&self) -> Self::Value
+        ensures { number result ≡ absent };
+
+    fn channel(&self, channel: u8) -> Self::Value
+        ensures { number result ≡ (rule self.now).channel channel };
+
+    fn operator(&self, op: u8, args: &[Self::Value]) -> Self::Value
+        ensures { number result ≡ (rule self.now).operator op (map number args.now) };
+}
+
+// What a step is worth, from what the earlier steps are.
+fn step_worth<S: OperatorSet, W: Worth>(
+    set: &S,
+    worth: &W,
+    step: Step,
+    earlier: &[W::Value],
+) -> W::Value
+    requires { 513 * type_size W.Value.row < 2 ^ 63 }
+    ensures { W.number result ≡ step_value (S.OperatorSet.meaning set.now) (W.rule worth.now) W.absent (map W.number earlier.now) step }
+{
+    match step.top {
+        Top::Channel(channel) => worth.channel(channel),
+        Top::Operator(op) => {
+            let args = arguments(earlier, step, worth.absent());
+            let n = set.arity(op) as usize;
+            worth.operator(op, &args[..n])
+        }
+    }
+}
+
+// What the formula that the steps say is worth; the set gives the operators' arities.
+pub(crate) fn worth_of<S: OperatorSet, W: Worth>(steps: &Steps, set: &S, worth: &W) -> W::Value
+    requires { 513 * type_size W.Value.row < 2 ^ 63 }
+    ensures { (value : Formula → ℕ) (values : Formulas → List ℕ) → GoesBy (W.rule worth.now) value values → (f : Formula) → StepsSay (S.OperatorSet.meaning set.now) (listed steps.now) f → W.number result ≡ value f }
+{
+    let mut values = [worth.absent(); MOST_STEPS];
+    for (i, step) in steps.as_slice().iter().enumerate() {
+        values[i] = step_worth(set, worth, *step, &values);
+    }
+    at(&values, steps.len().saturating_sub(1), worth.absent())
+}

@@ -1,18 +1,13 @@
 -- What a law of readings holds after a filling, and what it answers to a reading.
-use Rattle.std.specs.Prelude.{◌≡◌, ℕ, cond, ◌↔◌, List, map, length, get_or, Some, None, Ok, Err, Option, Result, ◌==◌, nat_lt, slice_index_or}
-use Rattle.std.specs.List.{range_with_len}
+use Rattle.std.specs.Prelude.{◌≡◌, ℕ, cond, ◌↔◌, List, length, Some, None, Ok, Err, Option, Result, ◌==◌, nat_lt}
 use Rattle.refusals.specs.Numbers.{firmware_refusal, refused_by}
 use Rattle.refusals.specs.declared.firmware.FirmwareRefusal.{FirmwareRefusal}
 use Rattle.refusals.specs.declared.record.RecordRefusal.{RecordRefusal}
-use Rattle.operators.specs.Bands.{mark, most_arguments, SetMeaning}
+use Rattle.operators.specs.Bands.{mark, SetMeaning}
 use Rattle.rows.specs.Rows.{sound_bands}
 use Rattle.formulas.specs.Formula.{Formula, band}
-use Rattle.formulas.specs.Says.{argument_of, StepsSay}
-use Rattle.formulas.specs.Steps.{listed}
-use Rattle.formulas.specs.declared.steps.Step.{Step}
-use Rattle.formulas.specs.declared.steps.Steps.{Steps}
-use Rattle.formulas.specs.declared.steps.Top.{Top}
-use Rattle.formulas.specs.declared.steps.Top.TheVariants.{Channel, Operator}
+use Rattle.formulas.specs.Says.{StepsSay}
+use Rattle.formulas.specs.Steps.{Steps, listed}
 use Rattle.records.specs.Bytes.{record_of}
 use Rattle.records.specs.Writing.{Written}
 use Rattle.records.specs.Record.{Lawful, Says, SaysOneFormula}
@@ -52,16 +47,6 @@ LawBand m (Some s) reading b = (f : Formula) → StepsSay m (listed s) f → b �
 -- after a filling by a record: the band of the formula that the record says
 abbrev pub AnswersRecord : SetMeaning → ℕ → Option Steps → List ℕ → ℕ → Type 0
 AnswersRecord m channels law reading b = (bytes : List ℕ) → Holds m channels bytes law → (f : Formula) → Says m bytes f → b ≡ band m reading f
-
--- ── one step ──
-
--- the band of a step, where those of the earlier ones are known
-abbrev pub top_band : SetMeaning → List ℕ → List ℕ → Top → ℕ
-top_band m reading known (Channel c) = slice_index_or reading c mark
-top_band m reading known (Operator k) = m.band k known
-
-abbrev pub step_band : SetMeaning → List ℕ → List ℕ → Step → ℕ
-step_band m reading earlier s = top_band m reading (map (λ j. get_or earlier (argument_of s j) mark) (range_with_len 0 most_arguments)) s.top
 
 -- ── writing ──
 

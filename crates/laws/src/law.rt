@@ -3,7 +3,7 @@ ghost use Rattle.refusals.specs.Numbers.{sheet_refusal, record_refusal, refused_
 ghost use Rattle.records.specs.Reading.{bytes_refusal};
 ghost use Rattle.laws.specs.Laws.{Filled, LawBand, AnswersRecord, reading_refusal, Recorded};
 
-use crate::evaluate::last_band;
+use evaluation::band::band_of;
 use formulas::steps::Steps;
 use operators::set::{MARK, OperatorSet};
 use records::read::read_record;
@@ -54,13 +54,8 @@ impl<S: OperatorSet> Law<S> {
         ensures filled { Filled (S.OperatorSet.meaning self.old.set) self.old.channels.value bytes.now self.old.steps self.new.steps result }
         ensures ground { (self.new.set ≡ self.old.set) × (self.new.channels ≡ self.old.channels) }
     {
-        match read_record(bytes, &self.set, self.channels) {
-            Err(refusal) => Err(refusal),
-            Ok(steps) => {
-                self.steps = Some(steps);
-                Ok(())
-            }
-        }
+        self.steps = Some(read_record(bytes, &self.set, self.channels)?);
+        Ok(())
     }
 
     // The formula's band at a reading, one byte for each channel; the mark for no reading where there is no formula.
@@ -69,12 +64,10 @@ impl<S: OperatorSet> Law<S> {
         ensures band { IfOk result (λ b. LawBand (S.OperatorSet.meaning self.now.set) self.now.steps reading.now b) }
         ensures filled { IfOk result (λ b. AnswersRecord (S.OperatorSet.meaning self.now.set) self.now.channels.value self.now.steps reading.now b) }
     {
-        match check_reading(reading, self.channels.get()) {
-            Err(fault) => Err(fault),
-            Ok(()) => match &self.steps {
-                None => Ok(MARK),
-                Some(steps) => Ok(last_band(&self.set, steps, reading)),
-            },
+        check_reading(reading, self.channels.get())?;
+        match &self.steps {
+            None => Ok(MARK),
+            Some(steps) => Ok(band_of(steps, &self.set, reading)),
         }
     }
 

@@ -2,5 +2,4 @@
 
 #![tactic(auto)]
 
-mod evaluate;
 pub mod law;

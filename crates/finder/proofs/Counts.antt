@@ -1,7 +1,10 @@
 -- Marks and their number.
-use Rattle.std.proofs.Common.{◌≡◌, ℕ, zero, suc, ◌+◌, ◌-◌, ◌<◌, ◌≤◌, Bool, true, false, cond, List, [], ◌∷◌, map, length, get_or, take, set, replicate, sym, refl, ap, ◌∙◌, ap₂, arith}
-use Rattle.std.proofs.lemmas.List.{take-map, take-take, length-set}
+use Rattle.std.proofs.Common.{◌≡◌, ℕ, suc, ◌-◌, ◌<◌, ◌≤◌, min, Bool, true, false, cond, List, [], ◌∷◌, ◌++◌, filter, map, length, get_or, take, set, replicate, sym, refl, ap, ◌∙◌, ap₂, inl, inr, arith}
+use Rattle.std.proofs.lemmas.List.{take-map, take-take, length-set, take_all}
+use Rattle.std.proofs.lemmas.Bool.{cases_lt}
 use Rattle.operators.specs.Bands.{SetMeaning}
+use Rattle.formulas.specs.Says.{top_arity}
+use Rattle.formulas.specs.declared.steps.Top.{Top}
 use Rattle.formulas.specs.declared.steps.Top.TheVariants.{Channel, Operator}
 use Rattle.search.specs.Places as places
 use Rattle.search.specs.Stored.{no_place}
@@ -10,60 +13,56 @@ use Rattle.finder.specs.View.{bank_seen, place_seen, made_of, candidate_seen}
 use Rattle.finder.specs.declared.bank.Candidate.{Candidate}
 use Rattle.finder.specs.declared.bank.Place.{Place}
 use Rattle.finder.specs.declared.bank.Bank.{Bank}
-use Rattle.finder.proofs.Seen.{front_at, seen_length, operator_seen}
+use Rattle.finder.proofs.Seen.{front_at, seen_length}
 
-pub tally-more : (us : List Bool) (i : ℕ) (d : Bool) → i < length us → tally (take (i + 1) us) ≡ tally (take i us) + cond (get_or us i d) 1 0
-tally-more us i d l = let e : i + 1 ≡ suc i = omega arith in ap (λ n. tally (take n us)) e ∙ go us i l
-  where
-    push : (b : Bool) (x y : ℕ) → cond b (suc x) x ≡ x + cond b 1 0
-    push true x y = omega arith
-    push false x y = omega arith
+pub tally_filter : (us : List Bool) → tally us ≡ length (filter (λ mark. mark) us)
+tally_filter [] = refl
+tally_filter (true ∷ us) = ap suc (tally_filter us)
+tally_filter (false ∷ us) = tally_filter us
 
-    inner : (b : Bool) (x y z : ℕ) → x ≡ y + z → cond b (suc x) x ≡ cond b (suc y) y + z
-    inner true x y z e = omega arith
-    inner false x y z e = omega arith
+pub length-filter-le : (us : List Bool) → length (filter (λ mark. mark) us) ≤ length us
+length-filter-le [] = omega arith
+length-filter-le (true ∷ us) = let h = length-filter-le us in omega arith
+length-filter-le (false ∷ us) = let h = length-filter-le us in omega arith
 
-    go : (us : List Bool) (i : ℕ) → i < length us → tally (take (suc i) us) ≡ tally (take i us) + cond (get_or us i d) 1 0
-    go [] i l = absurd (omega arith)
-    go (b ∷ us) zero l = push b 0 0
-    go (b ∷ us) (suc i) l = inner b _ _ _ (go us i (omega arith))
+pub take_min : (us : List Bool) (i n : ℕ) → length us ≡ n → take (min i n) us ≡ take i us
+take_min us i n e = elim (cases_lt i n) [
+  | inl l ↦ (let q : min i n ≡ i = omega arith in ap (λ k. take k us) q)
+  | inr l ↦ (let q : min i n ≡ n = omega arith in ap (λ k. take k us) q ∙ take_all n us (omega arith) ∙ sym (take_all i us (omega arith)))
+]
 
 pub cut_seen : {A B : Type 0} (f : A → B) (xs : List A) (n k : ℕ) → k ≤ n → map f (take k xs) ≡ take k (map f (take n xs))
 cut_seen f xs n k l = ap (map f) (sym (take-take k n xs l)) ∙ sym (take-map f k (take n xs))
 
--- the arguments of a candidate, marked
-module _ (m : SetMeaning) (t : Candidate) (u : List Bool) where
-  pub marks-channel : (i : ℕ) → t.top ≡ Channel i → u ≡ mark (arguments_of (candidate_seen m t)) u
-  marks-channel i e = ap (λ x. mark (arguments_of (made_of m x t.args)) u) (sym e)
+-- the arguments of a candidate are as many of its places as its arity
+pub arguments_seen : (m : SetMeaning) (t : Candidate) → arguments_of (candidate_seen m t) ≡ take (top_arity m t.top) t.args
+arguments_seen m t = by t.top
+  where
+    by : (top : Top) → arguments_of (made_of m top t.args) ≡ take (top_arity m top) t.args
+    by (Channel i) = refl
+    by (Operator k) = refl
 
-  by-arity : (op a : ℕ) → t.top ≡ Operator op → a ≡ m.arity op → mark (take a (get_or t.args 0 0 ∷ get_or t.args 1 0 ∷ [])) u ≡ mark (arguments_of (candidate_seen m t)) u
-  by-arity op a e ae = ap (λ a. mark (take a (get_or t.args 0 0 ∷ get_or t.args 1 0 ∷ [])) u) ae ∙ ap (λ c. mark (arguments_of c) u) (operator_seen m op t e)
-
-  pub marks-none : (op a : ℕ) → t.top ≡ Operator op → a ≡ m.arity op → a ≡ 0 → u ≡ mark (arguments_of (candidate_seen m t)) u
-  marks-none op a e ae z = ap (λ a. mark (take a (get_or t.args 0 0 ∷ get_or t.args 1 0 ∷ [])) u) (sym z) ∙ by-arity op a e ae
-
-  pub marks-one : (op a : ℕ) → t.top ≡ Operator op → a ≡ m.arity op → a ≡ 1 → set u (get_or t.args 0 0) true ≡ mark (arguments_of (candidate_seen m t)) u
-  marks-one op a e ae z = ap (λ a. mark (take a (get_or t.args 0 0 ∷ get_or t.args 1 0 ∷ [])) u) (sym z) ∙ by-arity op a e ae
-
-  pub marks_two : (op a : ℕ) → t.top ≡ Operator op → a ≡ m.arity op → a ≡ 2 → set (set u (get_or t.args 0 0) true) (get_or t.args 1 0) true ≡ mark (arguments_of (candidate_seen m t)) u
-  marks_two op a e ae z = ap (λ a. mark (take a (get_or t.args 0 0 ∷ get_or t.args 1 0 ∷ [])) u) (sym z) ∙ by-arity op a e ae
+-- one mark more
+pub mark_push : (is : List ℕ) (i : ℕ) (u : List Bool) → mark (is ++ i ∷ []) u ≡ set (mark is u) i true
+mark_push [] i u = refl
+mark_push (j ∷ is) i u = mark_push is i (set u j true)
 
 -- the marks, one place further down
-module _ (m : SetMeaning) (n : ℕ) (b : Bank) (i : ℕ) (u : List Bool) (some : 0 < i) (within : i ≤ b.filled) where
-  down : (d : Place) (q : Bool) → get_or u (i - 1) false ≡ q → marks (bank_seen m n b) i u ≡ marks (bank_seen m n b) (i - 1) (cond q (mark (arguments_of (candidate_seen m (get_or b.places (i - 1) d).made_of)) u) u)
+module _ (m : SetMeaning) (n : ℕ) (b : Bank) (i : ℕ) (u : List Bool) (some : 0 < i) (within : i ≤ b.places.count) where
+  down : (d : Place) (q : Bool) → get_or u (i - 1) false ≡ q → marks (bank_seen m n b) i u ≡ marks (bank_seen m n b) (i - 1) (cond q (mark (arguments_of (candidate_seen m (get_or b.places.table (i - 1) d).made_of)) u) u)
   down d q is =
-      let few = b.few in let t = b.table in
+      let few = b.places.few in let t = b.places.whole in
       let e : i ≡ suc (i - 1) = omega arith in
       ap (λ j. marks (bank_seen m n b) j u) e
-      ∙ ap₂ (λ (q : Bool) (p : places.Place). marks (bank_seen m n b) (i - 1) (cond q (mark (arguments_of p.top) u) u)) is (front_at (place_seen m n) b.places b.filled (i - 1) d no_place (omega arith) (omega arith))
+      ∙ ap₂ (λ (q : Bool) (p : places.Place). marks (bank_seen m n b) (i - 1) (cond q (mark (arguments_of p.top) u) u)) is (front_at (place_seen m n) b.places.table b.places.count (i - 1) d no_place (omega arith) (omega arith))
 
-  pub down_marked : (d : Place) (v : List Bool) → get_or u (i - 1) false ≡ true → v ≡ mark (arguments_of (candidate_seen m (get_or b.places (i - 1) d).made_of)) u → marks (bank_seen m n b) (i - 1) v ≡ marks (bank_seen m n b) i u
+  pub down_marked : (d : Place) (v : List Bool) → get_or u (i - 1) false ≡ true → v ≡ mark (arguments_of (candidate_seen m (get_or b.places.table (i - 1) d).made_of)) u → marks (bank_seen m n b) (i - 1) v ≡ marks (bank_seen m n b) i u
   down_marked d v is e = ap (marks (bank_seen m n b) (i - 1)) e ∙ sym (down d true is)
 
   pub down_unmarked : (d : Place) → get_or u (i - 1) false ≡ false → marks (bank_seen m n b) (i - 1) u ≡ marks (bank_seen m n b) i u
   down_unmarked d is = sym (down d false is)
 
-pub marks-done : (m : SetMeaning) (n : ℕ) (b : Bank) (t : Candidate) (i : ℕ) (u v : List Bool) → i ≤ 0 → v ≡ mark (arguments_of (candidate_seen m t)) (replicate 512 false) → marks (bank_seen m n b) i u ≡ marks (bank_seen m n b) b.filled v → u ≡ used_marks (bank_seen m n b) (candidate_seen m t)
+pub marks-done : (m : SetMeaning) (n : ℕ) (b : Bank) (t : Candidate) (i : ℕ) (u v : List Bool) → i ≤ 0 → v ≡ mark (arguments_of (candidate_seen m t)) (replicate 512 false) → marks (bank_seen m n b) i u ≡ marks (bank_seen m n b) b.places.count v → u ≡ used_marks (bank_seen m n b) (candidate_seen m t)
 unfolding used_marks
 marks-done m n b t i u v l e inv =
     let z : 0 ≡ i = omega arith in

@@ -1,32 +1,25 @@
 -- The steps of a formula, one used place after the other.
 use Rattle.std.proofs.Common.{◌≡◌, ℕ, ◌+◌, ◌<◌, ◌≤◌, Bool, true, false, cond, ltb, List, [], ◌∷◌, ◌++◌, map, length, get_or, drop, sym, refl, ap, ◌∙◌, ap₂, append_assoc, append-nil, arith}
-use Rattle.std.proofs.lemmas.List.{drop_more, drop_all, length-take-le, length-append, map_push}
-use Rattle.std.proofs.lemmas.Bool.{lt-ltb}
+use Rattle.std.proofs.lemmas.List.{drop_more, drop_all, length-append, map_push}
 use Rattle.operators.specs.Bands.{SetMeaning}
-use Rattle.formulas.specs.Steps.{listed}
+use Rattle.fixed.proofs.Lengths.{listed-length, pushed}
+use Rattle.formulas.specs.Steps.{Steps, listed}
 use Rattle.formulas.specs.declared.steps.Step.{Step}
-use Rattle.formulas.specs.declared.steps.Steps.{Steps}
 use Rattle.search.specs.Places as places
 use Rattle.search.specs.Stored.{no_place}
 use Rattle.search.specs.Marks.{renumbered, marked_steps}
 use Rattle.finder.specs.Whole.{step_seen, steps_seen}
 
-pub listed-length : (s : Steps) → length (listed s) ≡ s.count
-listed-length s = let f = s.few in let w = s.whole in length-take-le s.count s.table (omega arith)
-
 pub none-listed : (s : Steps) → listed s ≡ [] → s.count ≡ 0
 none-listed s e = sym (listed-length s) ∙ ap length e
 
 -- one step more
-module _ (m : SetMeaning) (s t : Steps) (x : Step) (r : Bool) (room : s.count < 513) (is : r ≡ ltb s.count 513) (e : listed t ≡ cond r (listed s ++ x ∷ []) (listed s)) where
-  pub pushed : listed t ≡ listed s ++ x ∷ []
-  pushed = e ∙ ap (λ b. cond b (listed s ++ x ∷ []) (listed s)) (is ∙ lt-ltb s.count 513 room)
-
+module _ (m : SetMeaning) (s t : Steps) (x : Step) (r : Bool) (room : s.count < 513) (is : r ≡ ltb (length (listed s)) 513) (e : listed t ≡ cond r (listed s ++ x ∷ []) (listed s)) where
   pub pushed_count : t.count ≡ s.count + 1
-  pushed_count = let a = listed-length s in let b = listed-length t in let l = ap length pushed ∙ length-append (listed s) (x ∷ []) in omega arith
+  pushed_count = let a = listed-length s in let b = listed-length t in let l = ap length (pushed s t x r is e room) ∙ length-append (listed s) (x ∷ []) in omega arith
 
   pub pushed_seen : (y : places.Candidate) → step_seen m x ≡ y → steps_seen m t ≡ steps_seen m s ++ (y ∷ [])
-  pushed_seen y se = ap (map (step_seen m)) pushed ∙ map_push (step_seen m) (listed s) x ∙ ap (λ c. steps_seen m s ++ (c ∷ [])) se
+  pushed_seen y se = ap (map (step_seen m)) (pushed s t x r is e room) ∙ map_push (step_seen m) (listed s) x ∙ ap (λ c. steps_seen m s ++ (c ∷ [])) se
 
 -- the marked places from i on, by what stands at i
 module _ (u v : List Bool) (ps : List places.Place) (i : ℕ) (l : i < length v) (k : i < length ps) where

@@ -16,8 +16,8 @@ use Rattle.finder.proofs.Seen.{seen_length}
 
 -- the candidates in the order of the loops are those in build order
 pub ordered : (m : SetMeaning) (v : MeasureMeaning) (s : Sheet) (b : Bank) → ((op : ℕ) → m.arity op ≤ 2) →
-    up_from channel s.channels.value 0 ++ up_from (block m.arity b.filled) m.count 0 ≡ candidates (setting m v s) (length (bank_seen m s.count b))
-ordered m v s b narrow = nest_candidates (setting m v s) b.filled narrow ∙ ap (candidates (setting m v s)) (sym (seen_length m s.count b))
+    up_from channel s.channels.value 0 ++ up_from (block m.arity b.places.count) m.count 0 ≡ candidates (setting m v s) (length (bank_seen m s.rows.count b))
+ordered m v s b narrow = nest_candidates (setting m v s) b.places.count narrow ∙ ap (candidates (setting m v s)) (sym (seen_length m s.rows.count b))
 
 -- where no candidate follows, what is found and held is what all give
 pub builds_end : (E : Setting) (rows : List StandingRow) (w : ℕ) (before : Held) (cs : List Candidate) (r : Option Candidate) (after : Held) → Builds E rows w before cs r after → (r, after) ≡ build E rows w before cs

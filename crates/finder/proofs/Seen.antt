@@ -1,6 +1,9 @@
 -- Reading the tables as they are seen.
-use Rattle.std.proofs.Common.{◌≡◌, ℕ, zero, suc, ◌+◌, ◌-◌, ◌<◌, ◌≤◌, true, List, [], ◌∷◌, ◌++◌, map, length, get_or, take, set, sym, refl, ap, ◌∙◌, subst, ap₂, arith}
+use Rattle.std.proofs.Common.{◌≡◌, ℕ, zero, suc, ◌+◌, ◌-◌, ◌<◌, ◌≤◌, true, List, [], ◌∷◌, ◌++◌, map, length, get_or, take, set, Some, None, Option, MatchOption, sym, refl, ap, ◌∙◌, subst, ap₂, arith}
 use native.Mathlib.Decide.{dec_lt}
+use Rattle.std.specs.List.{AllWithin, HoldsAt}
+use Rattle.fixed.specs.Listed.{listed}
+use Rattle.fixed.proofs.Lengths.{listed-length}
 use Rattle.std.proofs.lemmas.List.{get_or-map, get_or-take, get_or_past, length-map, length-take, length-take-le, take_more_set, map_push, take_all, take_more_same, ext_get_or}
 use Rattle.operators.specs.Bands.{SetMeaning}
 use Rattle.measures.specs.Values.{values}
@@ -14,7 +17,7 @@ use Rattle.rows.specs.declared.row.Row.{Row}
 use Rattle.search.specs.Lists.{In, numbers}
 use Rattle.search.specs.Places as places
 use Rattle.search.specs.Places.{bands_at, weights_at}
-use Rattle.search.specs.Stored.{Held, grown, no_place, no_row, columns_in, band_of, column_of, weight_of, last_weight}
+use Rattle.search.specs.Stored.{Held, Looked, grown, no_place, no_row, columns_in, band_of, column_of, weight_of, last_weight}
 use Rattle.search.proofs.Lists.{choose-by, in_at, length-numbers, get_or_tabled}
 use Rattle.finder.specs.View.{place_seen, bank_seen, held_seen, rows_seen, made_of, candidate_seen}
 use Rattle.finder.specs.declared.bank.Candidate.{Candidate}
@@ -46,18 +49,18 @@ pub marks-at : (j : ℕ) → ◌≡◌ {A = ℕ} (get_or (15 ∷ 15 ∷ 15 ∷ 1
 marks-at j = same15 (15 ∷ 15 ∷ 15 ∷ 15 ∷ 15 ∷ 15 ∷ 15 ∷ 15 ∷ 15 ∷ 15 ∷ 15 ∷ 15 ∷ 15 ∷ 15 ∷ 15 ∷ 15 ∷ []) j (refl, (refl, (refl, (refl, (refl, (refl, (refl, (refl, (refl, (refl, (refl, (refl, (refl, (refl, (refl, (refl, tt))))))))))))))))
 
 module _ (m : SetMeaning) (n : ℕ) where
-  pub seen_length : (b : Bank) → length (bank_seen m n b) ≡ b.filled
-  seen_length b = let k = b.few in let t = b.table in front_length (place_seen m n) b.places b.filled (omega arith)
+  pub seen_length : (b : Bank) → length (bank_seen m n b) ≡ b.places.count
+  seen_length b = let k = b.places.few in let t = b.places.whole in front_length (place_seen m n) b.places.table b.places.count (omega arith)
 
-  pub pushed : (b : Bank) (p : Place) → b.filled < 512 → map (place_seen m n) (take (b.filled + 1) (set b.places b.filled p)) ≡ bank_seen m n b ++ (place_seen m n p ∷ [])
-  pushed b p l = let t = b.table in ap (map (place_seen m n)) (take_more_set b.places b.filled p (omega arith)) ∙ map_push (place_seen m n) (take b.filled b.places) p
+  pub pushed : (b : Bank) (p : Place) → b.places.count < 512 → map (place_seen m n) (take (b.places.count + 1) (set b.places.table b.places.count p)) ≡ bank_seen m n b ++ (place_seen m n p ∷ [])
+  pushed b p l = let t = b.places.whole in ap (map (place_seen m n)) (take_more_set b.places.table b.places.count p (omega arith)) ∙ map_push (place_seen m n) (take b.places.count b.places.table) p
 
   -- a place more, and none
-  pub grows : (b : Bank) (p : places.Place) (ps : List places.Place) → b.filled < 512 → ps ≡ bank_seen m n b ++ (p ∷ []) → ◌≡◌ {A = Held} (record { places = ps; over = b.over }) (grown (held_seen m n b) p)
+  pub grows : (b : Bank) (p : places.Place) (ps : List places.Place) → b.places.count < 512 → ps ≡ bank_seen m n b ++ (p ∷ []) → ◌≡◌ {A = Held} (record { places = ps; over = b.over }) (grown (held_seen m n b) p)
   grows b p ps l e =
       choose-by (λ (h : Held). record { places = ps; over = b.over } ≡ h) (dec_lt (length (bank_seen m n b)) 512) (λ q. ap (λ u. record { places = u; over = b.over }) e) (λ k. let s = seen_length b in absurd (k (omega arith)))
 
-  pub spills : (b : Bank) (p : places.Place) → 512 ≤ b.filled → ◌≡◌ {A = Held} (record { places = bank_seen m n b; over = true }) (grown (held_seen m n b) p)
+  pub spills : (b : Bank) (p : places.Place) → 512 ≤ b.places.count → ◌≡◌ {A = Held} (record { places = bank_seen m n b; over = true }) (grown (held_seen m n b) p)
   spills b p l =
       choose-by (λ (h : Held). record { places = bank_seen m n b; over = true } ≡ h) (dec_lt (length (bank_seen m n b)) 512) (λ q. let s = seen_length b in absurd (omega arith)) (λ k. refl)
 
@@ -72,23 +75,43 @@ some_of [] l = absurd (omega arith)
 some_of (x ∷ xs) l = x
 
 module _ (m : SetMeaning) (n : ℕ) (b : Bank) where
-  pub columns_length : length (columns_in (bank_seen m n b)) ≡ b.filled
+  pub columns_length : length (columns_in (bank_seen m n b)) ≡ b.places.count
   columns_length = length-map (bank_seen m n b) (λ (p : places.Place). p.column) ∙ seen_length m n b
 
-  pub column_seen : (i : ℕ) (d : Place) → i < b.filled → get_or (columns_in (bank_seen m n b)) i [] ≡ take n (get_or b.places i d).column
+  pub column_seen : (i : ℕ) (d : Place) → i < b.places.count → get_or (columns_in (bank_seen m n b)) i [] ≡ take n (get_or b.places.table i d).column.bands
   column_seen i d l =
-      let k = b.few in let t = b.table in let s = seen_length m n b in
+      let k = b.places.few in let t = b.places.whole in let s = seen_length m n b in
       get_or-map (λ (p : places.Place). p.column) (bank_seen m n b) i no_place [] (omega arith)
-      ∙ ap (λ (p : places.Place). p.column) (front_at (place_seen m n) b.places b.filled i d no_place l (omega arith))
+      ∙ ap (λ (p : places.Place). p.column) (front_at (place_seen m n) b.places.table b.places.count i d no_place l (omega arith))
 
-  pub not_seen : (x : List ℕ) → ((k : ℕ) (d : Place) → k < b.filled → take n (get_or b.places k d).column ≡ x → ⊥) → In x (columns_in (bank_seen m n b)) → ⊥
+  pub not_seen : (x : List ℕ) → ((k : ℕ) (d : Place) → k < b.places.count → take n (get_or b.places.table k d).column.bands ≡ x → ⊥) → In x (columns_in (bank_seen m n b)) → ⊥
   not_seen x none h =
       let r = in_at x (columns_in (bank_seen m n b)) h in
       let s = columns_length in
       let l = r.1 in
-      let t = b.table in
-      let d = some_of b.places (omega arith) in
+      let t = b.places.whole in
+      let d = some_of b.places.table (omega arith) in
       none r.0 d (omega arith) (sym (column_seen r.0 d (omega arith)) ∙ r.2 [])
+
+  -- what a search of the places for a column comes to
+  pub looked : (x : List ℕ) (r : Option ℕ) →
+      MatchOption r (AllWithin (λ (p : Place). take n p.column.bands ≡ x → ⊥) (listed b.places) 0 (length (listed b.places)))
+      (λ i. (i < length (listed b.places)) × HoldsAt (λ (p : Place). take n p.column.bands ≡ x) (listed b.places) i × AllWithin (λ (p : Place). take n p.column.bands ≡ x → ⊥) (listed b.places) 0 i)
+      → Looked (columns_in (bank_seen m n b)) x r
+  looked x None none =
+      let l = listed-length b.places in
+      not_seen x (λ k d h e. none k d (omega arith) (omega arith) (ap (λ (p : Place). take n p.column.bands) (get_or-take b.places.count b.places.table k d h) ∙ e))
+  looked x (Some i) at =
+      let l = listed-length b.places in
+      let c = columns_length in
+      let h = at.0 in
+      let t = b.places.whole in
+      let d = some_of b.places.table (omega arith) in
+      (omega arith, column_seen i d (omega arith) ∙ ap (λ (p : Place). take n p.column.bands) (sym (get_or-take b.places.count b.places.table i d (omega arith))) ∙ at.1 d)
+
+-- the same, by another name of the number of rows
+pub looked_by : (m : SetMeaning) (b : Bank) (x : List ℕ) (r : Option ℕ) (k n : ℕ) → k ≡ n → Looked (columns_in (bank_seen m k b)) (take k x) r → Looked (columns_in (bank_seen m n b)) (take n x) r
+looked_by m b x r k n e = subst (λ j. Looked (columns_in (bank_seen m j b)) (take j x) r) e
 
 -- ── the wanted column ──
 
@@ -102,30 +125,33 @@ wanted-at (x ∷ rs) zero d r l = refl
 wanted-at (x ∷ rs) (suc j) d r l = wanted-at rs j d r (omega arith)
 
 module _ (s : Sheet) where
-  pub rows-length : length (rows_seen s) ≡ s.count
-  rows-length = let k = s.few in let t = s.table in front_length (row_seen s.channels.value) s.rows s.count (omega arith)
+  pub rows-length : length (rows_seen s) ≡ s.rows.count
+  rows-length = let k = s.rows.few in let t = s.rows.whole in front_length (row_seen s.channels.value) s.rows.table s.rows.count (omega arith)
 
-  pub wanted_seen : (j d : ℕ) (r : Row) → j < s.count → get_or (wanted_of (rows_seen s)) j d ≡ (get_or s.rows j r).wanted
+  pub wanted_seen : (j d : ℕ) (r : Row) → j < s.rows.count → get_or (wanted_of (rows_seen s)) j d ≡ (get_or s.rows.table j r).wanted
   wanted_seen j d r l =
-      let k = s.few in let t = s.table in let n = rows-length in
-      wanted-at (rows_seen s) j d no_row (omega arith) ∙ ap (λ (x : StandingRow). x.wanted) (front_at (row_seen s.channels.value) s.rows s.count j r no_row l (omega arith))
+      let k = s.rows.few in let t = s.rows.whole in let n = rows-length in
+      wanted-at (rows_seen s) j d no_row (omega arith) ∙ ap (λ (x : StandingRow). x.wanted) (front_at (row_seen s.channels.value) s.rows.table s.rows.count j r no_row l (omega arith))
+
+  pub wanted_listed : (j d : ℕ) (r : Row) → j < s.rows.count → get_or (wanted_of (rows_seen s)) j d ≡ (get_or (listed s.rows) j r).wanted
+  wanted_listed j d r l = wanted_seen j d r l ∙ ap (λ (x : Row). x.wanted) (sym (get_or-take s.rows.count s.rows.table j r l))
 
   -- the wanted column up to j + 1
-  pub wanted-more : (column : List ℕ) (j : ℕ) → j < s.count → length column ≡ 16 → take j column ≡ take j (wanted_of (rows_seen s)) → get_or column j 0 ≡ get_or (wanted_of (rows_seen s)) j 0 → take (j + 1) column ≡ take (j + 1) (wanted_of (rows_seen s))
-  wanted-more column j l c inv e = let k = s.few in let n = rows-length in let w = length-wanted (rows_seen s) in take_more_same column (wanted_of (rows_seen s)) j 0 (omega arith) (omega arith) inv e
+  pub wanted-more : (column : List ℕ) (j : ℕ) → j < s.rows.count → length column ≡ 16 → take j column ≡ take j (wanted_of (rows_seen s)) → get_or column j 0 ≡ get_or (wanted_of (rows_seen s)) j 0 → take (j + 1) column ≡ take (j + 1) (wanted_of (rows_seen s))
+  wanted-more column j l c inv e = let k = s.rows.few in let n = rows-length in let w = length-wanted (rows_seen s) in take_more_same column (wanted_of (rows_seen s)) j 0 (omega arith) (omega arith) inv e
 
-  pub wanted-all : (column : List ℕ) (j : ℕ) → s.count ≤ j → j ≤ s.count → take j column ≡ take j (wanted_of (rows_seen s)) → take s.count column ≡ wanted_of (rows_seen s)
-  wanted-all column j l m inv = let n = rows-length in let w = length-wanted (rows_seen s) in let e : s.count ≡ j = omega arith in ap (λ i. take i column) e ∙ inv ∙ take_all j (wanted_of (rows_seen s)) (omega arith)
+  pub wanted-all : (column : List ℕ) (j : ℕ) → s.rows.count ≤ j → j ≤ s.rows.count → take j column ≡ take j (wanted_of (rows_seen s)) → take s.rows.count column ≡ wanted_of (rows_seen s)
+  wanted-all column j l m inv = let n = rows-length in let w = length-wanted (rows_seen s) in let e : s.rows.count ≡ j = omega arith in ap (λ i. take i column) e ∙ inv ∙ take_all j (wanted_of (rows_seen s)) (omega arith)
 
-  pub wanted_not : (column : List ℕ) (j : ℕ) → j < s.count → (get_or column j 0 ≡ get_or (wanted_of (rows_seen s)) j 0 → ⊥) → take s.count column ≡ wanted_of (rows_seen s) → ⊥
-  wanted_not column j l ne e = ne (sym (get_or-take s.count column j 0 l) ∙ ap (λ c. get_or c j 0) e)
+  pub wanted_not : (column : List ℕ) (j : ℕ) → j < s.rows.count → (get_or column j 0 ≡ get_or (wanted_of (rows_seen s)) j 0 → ⊥) → take s.rows.count column ≡ wanted_of (rows_seen s) → ⊥
+  wanted_not column j l ne e = ne (sym (get_or-take s.rows.count column j 0 l) ∙ ap (λ c. get_or c j 0) e)
 
-  pub row-past : (j i : ℕ) → j < s.count → s.channels.value ≤ i → get_or (get_or (rows_seen s) j no_row).bands i 15 ≡ 15
+  pub row-past : (j i : ℕ) → j < s.rows.count → s.channels.value ≤ i → get_or (get_or (rows_seen s) j no_row).bands i 15 ≡ 15
   row-past j i l m =
-      let k = s.few in let t = s.table in
-      let d = some_of s.rows (omega arith) in
-      let e = length-take s.channels.value (get_or s.rows j d).bands in
-      ap (λ (x : StandingRow). get_or x.bands i 15) (front_at (row_seen s.channels.value) s.rows s.count j d no_row l (omega arith)) ∙ get_or_past (take s.channels.value (get_or s.rows j d).bands) i 15 (omega arith)
+      let k = s.rows.few in let t = s.rows.whole in
+      let d = some_of s.rows.table (omega arith) in
+      let e = length-take s.channels.value (get_or s.rows.table j d).bands in
+      ap (λ (x : StandingRow). get_or x.bands i 15) (front_at (row_seen s.channels.value) s.rows.table s.rows.count j d no_row l (omega arith)) ∙ get_or_past (take s.channels.value (get_or s.rows.table j d).bands) i 15 (omega arith)
 
 -- ── a column from its bands ──
 
@@ -159,18 +185,18 @@ pub operator_seen : (m : SetMeaning) (op : ℕ) (t : Candidate) → t.top ≡ Op
 operator_seen m op t e = ap (λ xs. places.of_operator op (take (m.arity op) xs)) (two_items t.args t.two) ∙ ap (λ u. made_of m u t.args) (sym e)
 
 module _ (E : Setting) (s : Sheet) (ps : List places.Place) (r : List ℕ) (long : length r ≡ 16) where
-  column-by : (t : places.Candidate) → ((j : ℕ) → j < s.count → get_or r j 15 ≡ band_of E (rows_seen s) ps t j) → take s.count r ≡ column_of E (rows_seen s) ps t
+  column-by : (t : places.Candidate) → ((j : ℕ) → j < s.rows.count → get_or r j 15 ≡ band_of E (rows_seen s) ps t j) → take s.rows.count r ≡ column_of E (rows_seen s) ps t
   unfolding column_of
-  column-by t at = let k = s.few in tabled (band_of E (rows_seen s) ps t) s.count r (omega arith) at ∙ ap (λ n. map (band_of E (rows_seen s) ps t) (numbers n)) (sym (rows-length s))
+  column-by t at = let k = s.rows.few in tabled (band_of E (rows_seen s) ps t) s.rows.count r (omega arith) at ∙ ap (λ n. map (band_of E (rows_seen s) ps t) (numbers n)) (sym (rows-length s))
 
-  pub channel-right : (m : SetMeaning) (i : ℕ) (t : Candidate) → t.top ≡ Channel i → ((j : ℕ) → j < s.count → get_or r j 15 ≡ get_or (get_or (rows_seen s) j no_row).bands i 15) → take s.count r ≡ column_of E (rows_seen s) ps (candidate_seen m t)
+  pub channel-right : (m : SetMeaning) (i : ℕ) (t : Candidate) → t.top ≡ Channel i → ((j : ℕ) → j < s.rows.count → get_or r j 15 ≡ get_or (get_or (rows_seen s) j no_row).bands i 15) → take s.rows.count r ≡ column_of E (rows_seen s) ps (candidate_seen m t)
   channel-right m i t e at = column-by (places.of_channel i) at ∙ ap (λ u. column_of E (rows_seen s) ps (made_of m u t.args)) (sym e)
 
   pub operator-right : (op : ℕ) (a b : List ℕ) (t : Candidate) → t.top ≡ Operator op → E.set.arity op ≤ 2 →
-      ((j : ℕ) → j < s.count → get_or a j 15 ≡ get_or (get_or ps (get_or t.args 0 0) no_place).column j 15) →
-      ((j : ℕ) → j < s.count → get_or b j 15 ≡ get_or (get_or ps (get_or t.args 1 0) no_place).column j 15) →
-      ((j : ℕ) → j < s.count → get_or r j 15 ≡ E.set.band op (take (E.set.arity op) (get_or a j 15 ∷ get_or b j 15 ∷ []))) →
-      take s.count r ≡ column_of E (rows_seen s) ps (candidate_seen E.set t)
+      ((j : ℕ) → j < s.rows.count → get_or a j 15 ≡ get_or (get_or ps (get_or t.args 0 0) no_place).column j 15) →
+      ((j : ℕ) → j < s.rows.count → get_or b j 15 ≡ get_or (get_or ps (get_or t.args 1 0) no_place).column j 15) →
+      ((j : ℕ) → j < s.rows.count → get_or r j 15 ≡ E.set.band op (take (E.set.arity op) (get_or a j 15 ∷ get_or b j 15 ∷ []))) →
+      take s.rows.count r ≡ column_of E (rows_seen s) ps (candidate_seen E.set t)
   operator-right op a b t e narrow ae be at =
       let x = get_or t.args 0 0 in
       let y = get_or t.args 1 0 in
@@ -191,9 +217,9 @@ last_at [] l = absurd (omega arith)
 last_at (p ∷ []) l = refl
 last_at (p ∷ q ∷ ps) l = last_at (q ∷ ps) (omega arith) ∙ (let e : suc (length (q ∷ ps) - 1) ≡ length (p ∷ q ∷ ps) - 1 = omega arith in ap (λ i. (get_or (p ∷ q ∷ ps) i no_place).weight) e)
 
-pub last_seen : (m : SetMeaning) (n : ℕ) (b : Bank) (d : Place) → 0 < b.filled → last_weight (bank_seen m n b) ≡ (get_or b.places (b.filled - 1) d).weight.value
+pub last_seen : (m : SetMeaning) (n : ℕ) (b : Bank) (d : Place) → 0 < b.places.count → last_weight (bank_seen m n b) ≡ (get_or b.places.table (b.places.count - 1) d).weight.value
 last_seen m n b d l =
-    let few = b.few in let t = b.table in let s = seen_length m n b in
+    let few = b.places.few in let t = b.places.whole in let s = seen_length m n b in
     last_at (bank_seen m n b) (omega arith)
     ∙ ap (λ k. (get_or (bank_seen m n b) (k - 1) no_place).weight) s
-    ∙ ap (λ (p : places.Place). p.weight) (front_at (place_seen m n) b.places b.filled (b.filled - 1) d no_place (omega arith) (omega arith))
+    ∙ ap (λ (p : places.Place). p.weight) (front_at (place_seen m n) b.places.table b.places.count (b.places.count - 1) d no_place (omega arith) (omega arith))

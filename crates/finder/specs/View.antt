@@ -5,6 +5,7 @@ use Rattle.measures.specs.Measures.{MeasureMeaning}
 use Rattle.formulas.specs.Setting.{Setting}
 use Rattle.formulas.specs.declared.steps.Top.{Top}
 use Rattle.formulas.specs.declared.steps.Top.TheVariants.{Channel, Operator}
+use Rattle.fixed.specs.Listed.{listed}
 use Rattle.rows.specs.Rows.{StandingRow}
 use Rattle.rows.specs.Read.{row_seen}
 use Rattle.search.specs.Places as places
@@ -15,7 +16,7 @@ use Rattle.finder.specs.declared.bank.Place.{Place}
 use Rattle.finder.specs.declared.bank.Bank.{Bank}
 
 abbrev pub rows_seen : Sheet → List StandingRow
-rows_seen s = map (row_seen s.channels.value) (take s.count s.rows)
+rows_seen s = map (row_seen s.channels.value) (listed s.rows)
 
 -- the arguments that count are as many as the arity
 abbrev pub made_of : SetMeaning → Top → List ℕ → places.Candidate
@@ -27,10 +28,10 @@ candidate_seen m c = made_of m c.top c.args
 
 -- with n standing rows
 abbrev pub place_seen : SetMeaning → ℕ → Place → places.Place
-place_seen m n p = record { top = candidate_seen m p.made_of; column = take n p.column; weight = p.weight.value }
+place_seen m n p = record { top = candidate_seen m p.made_of; column = take n p.column.bands; weight = p.weight.value }
 
 abbrev pub bank_seen : SetMeaning → ℕ → Bank → List places.Place
-bank_seen m n b = map (place_seen m n) (take b.filled b.places)
+bank_seen m n b = map (place_seen m n) (listed b.places)
 
 abbrev pub held_seen : SetMeaning → ℕ → Bank → Held
 held_seen m n b = record { places = bank_seen m n b; over = b.over }

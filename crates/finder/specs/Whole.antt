@@ -6,9 +6,8 @@ use Rattle.refusals.specs.declared.firmware.FirmwareRefusal.{FirmwareRefusal}
 use Rattle.operators.specs.Bands.{SetMeaning}
 use Rattle.measures.specs.Measures.{MeasureMeaning}
 use Rattle.formulas.specs.Setting.{Setting}
-use Rattle.formulas.specs.Steps.{listed}
+use Rattle.formulas.specs.Steps.{Steps, listed}
 use Rattle.formulas.specs.declared.steps.Step.{Step}
-use Rattle.formulas.specs.declared.steps.Steps.{Steps}
 use Rattle.rows.specs.Read.{Read}
 use Rattle.rows.specs.declared.row.Row.{Row}
 use Rattle.search.specs.Places as places
@@ -27,13 +26,13 @@ use Rattle.finder.specs.declared.state.Finder.{Finder}
 
 abbrev pub status_seen : SetMeaning → State → machine.Status
 status_seen m state.Open = machine.is_open
-status_seen m (state.Found c p) = machine.is_found (candidate_seen m c) p.0 p.1
+status_seen m (state.Found c p) = machine.is_found (candidate_seen m c) p.weight p.steps
 status_seen m state.None = machine.is_none
 status_seen m state.Full = machine.is_full
 
 abbrev pub answer_seen : Answer → machine.Answer
 answer_seen (answer.Level w n) = machine.level w n
-answer_seen (answer.Found p) = machine.found p.0 p.1
+answer_seen (answer.Found p) = machine.found p.weight p.steps
 answer_seen answer.None = machine.none
 answer_seen answer.Full = machine.full
 
@@ -42,7 +41,7 @@ result_seen (Ok a) = answer_seen a
 result_seen (Err e) = machine.turned_away (firmware_refusal e).0 (firmware_refusal e).1
 
 abbrev pub whole : SetMeaning → Sheet → Bank → State → machine.State
-whole m s b st = record { rows = rows_seen s; limit = s.limit.value; places = bank_seen m s.count b; status = status_seen m st }
+whole m s b st = record { rows = rows_seen s; limit = s.limit.value; places = bank_seen m s.rows.count b; status = status_seen m st }
 
 abbrev pub finder_seen : {S M : Type 0} → SetMeaning → Finder S M → machine.State
 finder_seen m f = whole m f.problem.sheet f.search.bank f.search.state
@@ -68,22 +67,14 @@ NextRow standing channels bytes r = MatchBool (nat_le machine.most_rows standing
 abbrev pub ComesTo : SetMeaning → MeasureMeaning → Sheet → Bank → Bank → machine.Status → machine.Answer → Type 0
 ComesTo m v s before after st a =
     ◌≡◌ {A = machine.Move}
-    (record { answer = a; after = record { rows = rows_seen s; limit = s.limit.value; places = bank_seen m s.count after; status = st } })
+    (record { answer = a; after = record { rows = rows_seen s; limit = s.limit.value; places = bank_seen m s.rows.count after; status = st } })
     (machine.advance_open (setting m v s) (whole m s before state.Open))
 
 abbrev pub ReadsAs : SetMeaning → MeasureMeaning → Sheet → Bank → LevelResult → Bank → Type 0
-ReadsAs m v s before result.Settled after = ⊥
 ReadsAs m v s before result.Nothing after = ComesTo m v s before after machine.is_none machine.none
-ReadsAs m v s before (result.Fits c p) after = ComesTo m v s before after (machine.is_found (candidate_seen m c) p.0 p.1) (machine.found p.0 p.1)
+ReadsAs m v s before (result.Fits c p) after = ComesTo m v s before after (machine.is_found (candidate_seen m c) p.weight p.steps) (machine.found p.weight p.steps)
 ReadsAs m v s before result.TooMany after = ComesTo m v s before after machine.is_full machine.full
 ReadsAs m v s before (result.Filled w n) after = ComesTo m v s before after machine.is_open (machine.level w n)
-
--- what an advance comes to, by the state of the sheet
-abbrev pub LevelBy : SetMeaning → MeasureMeaning → Sheet → State → Bank → LevelResult → Bank → Type 0
-LevelBy m v s state.Open before r after = ReadsAs m v s before r after
-LevelBy m v s (state.Found c p) before r after = (r ≡ result.Settled) × (after ≡ before)
-LevelBy m v s state.None before r after = (r ≡ result.Settled) × (after ≡ before)
-LevelBy m v s state.Full before r after = (r ≡ result.Settled) × (after ≡ before)
 
 -- ── the steps of the formula found ──
 
@@ -95,7 +86,7 @@ steps_seen m s = map (step_seen m) (listed s)
 
 -- none unless the sheet has settled as Found; then the steps of what was found
 abbrev pub FormulaOf : SetMeaning → Sheet → Bank → State → Option Steps → Type 0
-FormulaOf m s b (state.Found c p) (Some steps) = steps_seen m steps ≡ steps_of (bank_seen m s.count b) (candidate_seen m c)
+FormulaOf m s b (state.Found c p) (Some steps) = steps_seen m steps ≡ steps_of (bank_seen m s.rows.count b) (candidate_seen m c)
 FormulaOf m s b (state.Found c p) None = ⊥
 FormulaOf m s b state.Open r = r ≡ None
 FormulaOf m s b state.None r = r ≡ None

@@ -1,4 +1,5 @@
-ghost use Rattle.std.specs.Prelude.{◌≡◌, ◌+◌, ◌<◌, OnOk, slice_set};
+ghost use Rattle.std.specs.Prelude.{◌≡◌, ◌<◌, [], ◌∷◌, ◌++◌, OnOk};
+ghost use Rattle.fixed.specs.Listed.{listed};
 ghost use Rattle.refusals.specs.Numbers.{sheet_refusal, refused_by};
 ghost use Rattle.search.specs.Machine.{Change, add as adding};
 ghost use Rattle.finder.specs.Whole.{finder_seen, finder_setting, NextRow, SameGround};
@@ -13,24 +14,22 @@ use rows::row::Row;
 impl Sheet {
     // The row that comes next, from its bytes.
     fn next_row(&self, bytes: &[u8]) -> Result<Row, SheetRefusal>
-        ensures row { NextRow self.now.count self.now.channels.value bytes.now result }
-        ensures room { OnOk result (self.now.count < 16) }
+        ensures row { NextRow self.now.rows.count self.now.channels.value bytes.now result }
+        ensures room { OnOk result (self.now.rows.count < 16) }
     {
-        if self.count >= 16 {
+        if self.rows.len() >= 16 {
             return Err(SheetRefusal::Rows);
         }
         Row::read(bytes, self.channels)
     }
 
     fn put_last(&mut self, row: Row)
-        requires { self.old.count < 16 }
-        ensures rows { self.new.rows ≡ slice_set self.old.rows self.old.count row }
-        ensures count { self.new.count ≡ self.old.count + 1 }
+        requires { self.old.rows.count < 16 }
+        ensures rows { listed self.new.rows ≡ listed self.old.rows ++ row ∷ [] }
         ensures rest { (self.new.channels ≡ self.old.channels) × (self.new.limit ≡ self.old.limit) }
     {
-        let last = self.count;
-        self.rows[last] = row;
-        self.count = last + 1;
+        // there is room
+        let _ = self.rows.push(row);
     }
 }
 
@@ -42,7 +41,7 @@ impl<S: OperatorSet, M: Measure> Finder<S, M> {
     {
         let row = self.problem.sheet.next_row(bytes)?;
         self.problem.sheet.put_last(row);
-        self.search.bank.filled = 0;
+        self.search.bank.places.truncate(0);
         self.search.state = State::Open;
         Ok(())
     }

@@ -1,5 +1,7 @@
-ghost use Rattle.std.specs.Prelude.{◌≡◌, ◌≤◌, length};
+ghost use Rattle.std.specs.Prelude.{◌≡◌, [], ◌≤◌, length};
+ghost use Rattle.fixed.specs.Listed.{listed};
 
+use fixed::list::FixedList;
 use formulas::steps::Top;
 use measures::weight::Weight;
 
@@ -12,21 +14,50 @@ pub struct Candidate {
     ghost two: { length args ≡ 2 },
 }
 
-// A formula's column holds its bands, one for each standing row.
+// A formula's bands, one for each standing row; those behind them mean nothing.
+#[derive(Clone, Copy)]
+pub struct Column {
+    pub(crate) bands: [u8; 16],
+    ghost tall: { length bands ≡ 16 },
+}
+
+// A place of the bank: a formula's column and weight, and what it is made of.
 #[derive(Clone, Copy)]
 pub struct Place {
     pub(crate) made_of: Candidate,
-    pub(crate) column: [u8; 16],
+    pub(crate) column: Column,
     pub(crate) weight: Weight,
-    ghost tall: { length column ≡ 16 },
 }
 
-// The bank is the first `filled` places. A level is built into the free ones; `over` says that one of its columns found none.
+// The bank's places. A level is built into the free ones; `over` says that one of its columns found none.
 #[derive(Drop)]
 pub struct Bank {
-    pub(crate) places: [Place; 512],
-    pub(crate) filled: usize,
+    pub(crate) places: FixedList<Place, 512>,
+    // a flag beside the places, and no error of the level's building: that goes on after it, since a formula may yet fit
     pub(crate) over: bool,
-    ghost few: { filled ≤ 512 },
-    ghost table: { length places ≡ 512 },
+}
+
+// What stands where there is no place.
+impl Default for Place {
+    fn default() -> Place {
+        Place {
+            made_of: Candidate {
+                top: Top::Channel(0),
+                args: [0, 0],
+            },
+            column: Column { bands: [15; 16] },
+            weight: Weight::one(),
+        }
+    }
+}
+
+impl Bank {
+    pub(crate) fn empty() -> Bank
+        ensures { listed result.places ≡ [] }
+    {
+        Bank {
+            places: FixedList::empty(),
+            over: false,
+        }
+    }
 }

@@ -13,7 +13,7 @@ use operators::set::OperatorSet;
 impl<S: OperatorSet, M: Measure> Problem<S, M> {
     // Whether the candidate fits; one of the weight that does not is kept, if its column is new.
     fn offer(&self, bank: &mut Bank, weight: u32, candidate: Candidate) -> bool
-        ensures { (result, held_seen (S.OperatorSet.meaning self.now.set) self.now.sheet.count bank.new) ≡ offered (setting (S.OperatorSet.meaning self.now.set) (M.Measure.meaning self.now.measure) self.now.sheet) (rows_seen self.now.sheet) weight (held_seen (S.OperatorSet.meaning self.now.set) self.now.sheet.count bank.old) (candidate_seen (S.OperatorSet.meaning self.now.set) candidate) }
+        ensures { (result, held_seen (S.OperatorSet.meaning self.now.set) self.now.sheet.rows.count bank.new) ≡ offered (setting (S.OperatorSet.meaning self.now.set) (M.Measure.meaning self.now.measure) self.now.sheet) (rows_seen self.now.sheet) weight (held_seen (S.OperatorSet.meaning self.now.set) self.now.sheet.rows.count bank.old) (candidate_seen (S.OperatorSet.meaning self.now.set) candidate) }
     {
         let own = self.weight_of(bank, candidate);
         if own.value() != weight {
@@ -23,7 +23,7 @@ impl<S: OperatorSet, M: Measure> Problem<S, M> {
         if self.sheet.wants(&column) {
             return true;
         }
-        match bank.place_of(&column, self.sheet.count) {
+        match bank.place_of(&column, self.sheet.rows.len()) {
             Some(_) => {}
             None => bank.push(Place {
                 made_of: candidate,
@@ -36,7 +36,7 @@ impl<S: OperatorSet, M: Measure> Problem<S, M> {
 
     // The first channel that fits, by number; the bank takes the new columns of those before it.
     fn build_channels(&self, bank: &mut Bank, weight: u32) -> Option<Candidate>
-        ensures { Builds (setting (S.OperatorSet.meaning self.now.set) (M.Measure.meaning self.now.measure) self.now.sheet) (rows_seen self.now.sheet) weight (held_seen (S.OperatorSet.meaning self.now.set) self.now.sheet.count bank.old) (up_from channel self.now.sheet.channels.value 0) (option_seen (S.OperatorSet.meaning self.now.set) result) (held_seen (S.OperatorSet.meaning self.now.set) self.now.sheet.count bank.new) }
+        ensures { Builds (setting (S.OperatorSet.meaning self.now.set) (M.Measure.meaning self.now.measure) self.now.sheet) (rows_seen self.now.sheet) weight (held_seen (S.OperatorSet.meaning self.now.set) self.now.sheet.rows.count bank.old) (up_from channel self.now.sheet.channels.value 0) (option_seen (S.OperatorSet.meaning self.now.set) result) (held_seen (S.OperatorSet.meaning self.now.set) self.now.sheet.rows.count bank.new) }
     {
         let channels = self.sheet.channels.get();
         for channel in 0..channels {
@@ -54,7 +54,7 @@ impl<S: OperatorSet, M: Measure> Problem<S, M> {
     // The first operator that fits, over the first `places` places in build order; the bank takes the new columns of those
     // before it.
     fn build_operators(&self, bank: &mut Bank, weight: u32, places: usize) -> Option<Candidate>
-        ensures { Builds (setting (S.OperatorSet.meaning self.now.set) (M.Measure.meaning self.now.measure) self.now.sheet) (rows_seen self.now.sheet) weight (held_seen (S.OperatorSet.meaning self.now.set) self.now.sheet.count bank.old) (up_from (block (S.OperatorSet.meaning self.now.set).arity places) (S.OperatorSet.meaning self.now.set).count 0) (option_seen (S.OperatorSet.meaning self.now.set) result) (held_seen (S.OperatorSet.meaning self.now.set) self.now.sheet.count bank.new) }
+        ensures { Builds (setting (S.OperatorSet.meaning self.now.set) (M.Measure.meaning self.now.measure) self.now.sheet) (rows_seen self.now.sheet) weight (held_seen (S.OperatorSet.meaning self.now.set) self.now.sheet.rows.count bank.old) (up_from (block (S.OperatorSet.meaning self.now.set).arity places) (S.OperatorSet.meaning self.now.set).count 0) (option_seen (S.OperatorSet.meaning self.now.set) result) (held_seen (S.OperatorSet.meaning self.now.set) self.now.sheet.rows.count bank.new) }
     {
         let mut found = None;
         'operators: for op in 0..self.set.count() {
@@ -79,9 +79,9 @@ impl<S: OperatorSet, M: Measure> Problem<S, M> {
 
     // The first candidate of the weight that fits, in build order; the bank takes the new columns of those before it.
     pub(crate) fn build(&self, bank: &mut Bank, weight: u32) -> Option<Candidate>
-        ensures { (option_seen (S.OperatorSet.meaning self.now.set) result, held_seen (S.OperatorSet.meaning self.now.set) self.now.sheet.count bank.new) ≡ built (setting (S.OperatorSet.meaning self.now.set) (M.Measure.meaning self.now.measure) self.now.sheet) (rows_seen self.now.sheet) weight (bank_seen (S.OperatorSet.meaning self.now.set) self.now.sheet.count bank.old) }
+        ensures { (option_seen (S.OperatorSet.meaning self.now.set) result, held_seen (S.OperatorSet.meaning self.now.set) self.now.sheet.rows.count bank.new) ≡ built (setting (S.OperatorSet.meaning self.now.set) (M.Measure.meaning self.now.measure) self.now.sheet) (rows_seen self.now.sheet) weight (bank_seen (S.OperatorSet.meaning self.now.set) self.now.sheet.rows.count bank.old) }
     {
-        let places = bank.filled;
+        let places = bank.places.len();
         bank.over = false;
         match self.build_channels(bank, weight) {
             Some(candidate) => Some(candidate),

@@ -7,6 +7,7 @@ use crate::bank::{Bank, Candidate};
 use crate::problem::Problem;
 use formulas::steps::Top;
 use measures::measure::Measure;
+use measures::weight::Weight;
 use operators::set::OperatorSet;
 
 // How many places an argument runs over: all of them, or one where it is past the arity.
@@ -19,31 +20,33 @@ pub(crate) fn turns(arity: u8, argument: u8, places: usize) -> usize
 impl<S: OperatorSet, M: Measure> Problem<S, M> {
     // The weight of the candidate, if it is lighter than `best`, heavier than the last place and its column is not in the bank;
     // else `best`.
-    fn lowered(&self, bank: &Bank, last: u32, best: u32, candidate: Candidate) -> u32
-        requires { last ≡ last_weight (bank_seen (S.OperatorSet.meaning self.now.set) self.now.sheet.count bank.now) }
-        ensures { result ≡ lower (setting (S.OperatorSet.meaning self.now.set) (M.Measure.meaning self.now.measure) self.now.sheet) (rows_seen self.now.sheet) (bank_seen (S.OperatorSet.meaning self.now.set) self.now.sheet.count bank.now) best (candidate_seen (S.OperatorSet.meaning self.now.set) candidate) }
+    fn lowered(&self, bank: &Bank, last: u32, best: Weight, candidate: Candidate) -> Weight
+        requires { last ≡ last_weight (bank_seen (S.OperatorSet.meaning self.now.set) self.now.sheet.rows.count bank.now) }
+        ensures { result.value ≡ lower (setting (S.OperatorSet.meaning self.now.set) (M.Measure.meaning self.now.measure) self.now.sheet) (rows_seen self.now.sheet) (bank_seen (S.OperatorSet.meaning self.now.set) self.now.sheet.rows.count bank.now) best.value (candidate_seen (S.OperatorSet.meaning self.now.set) candidate) }
     {
-        let weight = self.weight_of(bank, candidate).value();
+        let own = self.weight_of(bank, candidate);
+        let weight = own.value();
+        let lowest = best.value();
         if weight <= last {
             return best;
         }
-        if weight < best {
+        if weight < lowest {
             let column = self.column_of(bank, candidate);
-            match bank.place_of(&column, self.sheet.count) {
+            match bank.place_of(&column, self.sheet.rows.len()) {
                 Some(_) => best,
-                None => weight,
+                None => own,
             }
         } else {
             best
         }
     }
 
-    // The least weight of a candidate whose column is not in the bank, 1,000,001 where there is none.
-    pub(crate) fn level(&self, bank: &Bank) -> u32
-        ensures { result ≡ level_at (setting (S.OperatorSet.meaning self.now.set) (M.Measure.meaning self.now.measure) self.now.sheet) (rows_seen self.now.sheet) (bank_seen (S.OperatorSet.meaning self.now.set) self.now.sheet.count bank.now) }
+    // The least weight of a candidate whose column is not in the bank, beyond where there is none.
+    pub(crate) fn level(&self, bank: &Bank) -> Weight
+        ensures { result.value ≡ level_at (setting (S.OperatorSet.meaning self.now.set) (M.Measure.meaning self.now.measure) self.now.sheet) (rows_seen self.now.sheet) (bank_seen (S.OperatorSet.meaning self.now.set) self.now.sheet.rows.count bank.now) }
     {
         let last = bank.last();
-        let mut best = 1_000_001;
+        let mut best = Weight::beyond();
         let channels = self.sheet.channels.get();
         for channel in 0..channels {
             let candidate = Candidate {
@@ -52,10 +55,13 @@ impl<S: OperatorSet, M: Measure> Problem<S, M> {
             };
             best = self.lowered(bank, last, best, candidate);
         }
+        // here and in the building of a level: an iterator over the candidates would count channels, operators and places in
+        // fields of its own, where these loops count nothing by hand
+        let places = bank.places.len();
         for op in 0..self.set.count() {
             let arity = self.set.arity(op);
-            let firsts = turns(arity, 0, bank.filled);
-            let seconds = turns(arity, 1, bank.filled);
+            let firsts = turns(arity, 0, places);
+            let seconds = turns(arity, 1, places);
             for first in 0..firsts {
                 for second in 0..seconds {
                     let candidate = Candidate {

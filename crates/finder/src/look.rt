@@ -3,18 +3,17 @@ ghost use Rattle.operators.specs.Bands.{SetMeaning};
 ghost use Rattle.search.specs.Stored.{no_place, columns_in, grown, last_weight, Looked};
 ghost use Rattle.finder.specs.View.{bank_seen, held_seen, place_seen};
 
-use crate::bank::{Bank, Place};
+use crate::bank::{Bank, Column, Place};
 use measures::weight::Weight;
 
 impl Bank {
     // The column at the place `i`, all marks where it is not filled.
-    pub(crate) fn column(&self, i: usize) -> [u8; 16]
-        ensures { (m : SetMeaning) (n j : ℕ) → j < n → slice_index_or result j 15 ≡ slice_index_or (get_or (bank_seen m n self.now) i no_place).column j 15 }
+    pub(crate) fn column(&self, i: usize) -> Column
+        ensures { (m : SetMeaning) (n j : ℕ) → j < n → slice_index_or result.bands j 15 ≡ slice_index_or (get_or (bank_seen m n self.now) i no_place).column j 15 }
     {
-        if i < self.filled {
-            self.places[i].column
-        } else {
-            [15; 16]
+        match self.places.as_slice().get(i) {
+            Some(place) => place.column,
+            None => Column { bands: [15; 16] },
         }
     }
 
@@ -22,10 +21,9 @@ impl Bank {
     pub(crate) fn weight(&self, i: usize) -> Weight
         ensures { (m : SetMeaning) (n : ℕ) → result.value ≡ (get_or (bank_seen m n self.now) i no_place).weight }
     {
-        if i < self.filled {
-            self.places[i].weight
-        } else {
-            Weight::one()
+        match self.places.as_slice().get(i) {
+            Some(place) => place.weight,
+            None => Weight::one(),
         }
     }
 
@@ -33,43 +31,36 @@ impl Bank {
     pub(crate) fn last(&self) -> u32
         ensures { (m : SetMeaning) (n : ℕ) → result ≡ last_weight (bank_seen m n self.now) }
     {
-        if self.filled == 0 {
-            0
-        } else {
-            self.places[self.filled - 1].weight.value()
+        match self.places.as_slice().last() {
+            Some(place) => place.weight.value(),
+            None => 0,
         }
     }
 
     // The place of a column of `n` bands, if it has one.
-    pub(crate) fn place_of(&self, column: &[u8; 16], n: usize) -> Option<usize>
+    pub(crate) fn place_of(&self, column: &Column, n: usize) -> Option<usize>
         requires { n ≤ 16 }
-        ensures { (m : SetMeaning) → Looked (columns_in (bank_seen m n self.now)) (take n column.now) result }
+        ensures { (m : SetMeaning) → Looked (columns_in (bank_seen m n self.now)) (take n column.now.bands) result }
     {
-        for i in 0..self.filled {
-            if self.places[i].column[..n] == column[..n] {
-                return Some(i);
-            }
-        }
-        None
+        self.places
+            .as_slice()
+            .iter()
+            .position(|place| place.column.bands[..n] == column.bands[..n])
     }
 
     // One place more, if there is room.
     pub(crate) fn push(&mut self, place: Place)
         ensures { (m : SetMeaning) (n : ℕ) → held_seen m n self.new ≡ grown (held_seen m n self.old) (place_seen m n place) }
     {
-        if self.filled < 512 {
-            self.places[self.filled] = place;
-            self.filled += 1;
-        } else {
+        if self.places.push(place).is_err() {
             self.over = true;
         }
     }
 
     // Takes away the places from `filled` on.
     pub(crate) fn cut(&mut self, filled: usize)
-        requires { filled ≤ self.old.filled }
         ensures { (m : SetMeaning) (n : ℕ) → bank_seen m n self.new ≡ take filled (bank_seen m n self.old) }
     {
-        self.filled = filled;
+        self.places.truncate(filled);
     }
 }

@@ -3,31 +3,37 @@ use crate::problem::Problem;
 use measures::measure::Measure;
 use operators::set::OperatorSet;
 
-// Whether the sheet is open, or as what it has settled: Found with what the formula is made of, its weight and its number of steps.
+// The weight and the number of steps of the formula found.
+#[derive(Clone, Copy, PartialEq, Eq, Debug)]
+pub struct Found {
+    pub weight: u32,
+    pub steps: usize,
+}
+
+// Whether the sheet is open, or as what it has settled: Found with what the formula is made of.
 #[derive(Clone, Copy)]
 pub enum State {
     Open,
-    Found(Candidate, (u32, usize)),
+    Found(Candidate, Found),
     None,
     Full,
 }
 
-// What an advance answers: the level's weight and the places now filled; the weight and the number of steps of the formula
-// found; that there is none within the limit; that the bank is too small.
+// What an advance answers: the level's weight and the places now filled; what was found; that there is no formula within the
+// limit; that the bank is too small.
 #[derive(Clone, Copy, PartialEq, Eq, Debug)]
 pub enum Answer {
     Level(u32, usize),
-    Found((u32, usize)),
+    Found(Found),
     None,
     Full,
 }
 
-// What an advance comes to. A settled sheet is not searched.
+// What an advance on an open sheet comes to.
 #[derive(Clone, Copy)]
 pub enum LevelResult {
-    Settled,
     Nothing,
-    Fits(Candidate, (u32, usize)),
+    Fits(Candidate, Found),
     TooMany,
     Filled(u32, usize),
 }

@@ -1,74 +1,93 @@
-ghost use Rattle.std.specs.Prelude.{◌≡◌, ℕ, ◌+◌, ◌<◌, ◌≤◌, true, length, slice_set};
-ghost use Rattle.search.specs.Marks.{arguments_of, mark as marking, steps_at, tally, used_marks};
+ghost use Rattle.std.specs.Prelude.{◌≡◌, ◌≤◌, true, false, filter, length, replicate, slice_set};
+ghost use Rattle.search.specs.Marks.{arguments_of, mark as marking, rank, steps_at, tally, used_marks};
 ghost use Rattle.finder.specs.View.{bank_seen, candidate_seen};
 
 use crate::bank::{Bank, Candidate};
 use crate::problem::Problem;
-use formulas::steps::Top;
+use crate::state::Found;
 use measures::measure::Measure;
 use operators::set::OperatorSet;
 
-// How many are marked.
-fn tallied(used: &[bool; 512]) -> usize
-    ensures few { result ≤ 512 }
-    ensures all { result ≡ tally used.now }
-{
-    let mut n = 0;
-    for u in used {
-        if *u {
-            n += 1;
-        }
-    }
-    n
+// Which places of the bank a formula uses.
+#[derive(Clone, Copy)]
+pub(crate) struct Marks {
+    pub(crate) used: [bool; 512],
+    ghost long: { length used ≡ 512 },
 }
 
-fn put(used: &mut [bool; 512], i: usize)
-    ensures { used.new ≡ slice_set used.old i true }
+// How many are true.
+fn tallied(used: &[bool]) -> usize
+    ensures { result ≡ length (filter (λ mark. mark) used.now) }
 {
-    if i < 512 {
-        used[i] = true;
+    used.iter().filter(|mark| **mark).count()
+}
+
+impl Marks {
+    fn none() -> Marks
+        ensures { result.used ≡ replicate 512 false }
+    {
+        Marks { used: [false; 512] }
+    }
+
+    fn put(&mut self, i: usize)
+        ensures { self.new.used ≡ slice_set self.old.used i true }
+    {
+        if i < 512 {
+            self.used[i] = true;
+        }
+    }
+
+    // How many are marked.
+    fn count(&self) -> usize
+        ensures few { result ≤ 512 }
+        ensures all { result ≡ tally self.now.used }
+    {
+        tallied(&self.used)
+    }
+
+    // The number of a place among those that are marked.
+    pub(crate) fn rank(&self, place: usize) -> u16
+        ensures { result ≡ rank self.now.used place }
+    {
+        tallied(&self.used[..place.min(512)]) as u16
     }
 }
 
 impl<S: OperatorSet, M: Measure> Problem<S, M> {
     // Marks the places of the arguments.
-    fn mark(&self, used: &mut [bool; 512], candidate: Candidate)
-        ensures { used.new ≡ marking (arguments_of (candidate_seen (S.OperatorSet.meaning self.now.set) candidate)) used.old }
+    fn mark(&self, marks: &mut Marks, candidate: Candidate)
+        ensures { marks.new.used ≡ marking (arguments_of (candidate_seen (S.OperatorSet.meaning self.now.set) candidate)) marks.old.used }
     {
-        let Top::Operator(op) = candidate.top else {
-            return;
-        };
-        let arity = self.set.arity(op);
-        if arity == 0 {
-            return;
+        let arity = candidate.top.arity(&self.set) as usize;
+        for place in &candidate.args[..arity] {
+            marks.put(*place);
         }
-        put(used, candidate.args[0]);
-        if arity == 1 {
-            return;
-        }
-        put(used, candidate.args[1]);
     }
 
     // The places that the formula of the candidate uses.
-    pub(crate) fn used(&self, bank: &Bank, candidate: Candidate) -> [bool; 512]
-        ensures long { length result ≡ 512 }
-        ensures marks { result ≡ used_marks (bank_seen (S.OperatorSet.meaning self.now.set) self.now.sheet.count bank.now) (candidate_seen (S.OperatorSet.meaning self.now.set) candidate) }
+    pub(crate) fn marks_of(&self, bank: &Bank, candidate: Candidate) -> Marks
+        ensures { result.used ≡ used_marks (bank_seen (S.OperatorSet.meaning self.now.set) self.now.sheet.rows.count bank.now) (candidate_seen (S.OperatorSet.meaning self.now.set) candidate) }
     {
-        let mut used = [false; 512];
-        self.mark(&mut used, candidate);
-        for i in (0..bank.filled).rev() {
-            if used[i] {
-                self.mark(&mut used, bank.places[i].made_of);
+        let mut marks = Marks::none();
+        self.mark(&mut marks, candidate);
+        let places = bank.places.as_slice();
+        // by number, since the marks that the loop goes by change under it
+        for i in (0..places.len()).rev() {
+            if marks.used[i] {
+                self.mark(&mut marks, places[i].made_of);
             }
         }
-        used
+        marks
     }
 
     // The weight, and how many different parts the formula of the candidate has, itself included.
-    pub(crate) fn counted(&self, bank: &Bank, candidate: Candidate, weight: u32) -> (u32, usize)
-        ensures { result ≡ (weight, steps_at (bank_seen (S.OperatorSet.meaning self.now.set) self.now.sheet.count bank.now) (candidate_seen (S.OperatorSet.meaning self.now.set) candidate)) }
+    pub(crate) fn counted(&self, bank: &Bank, candidate: Candidate, weight: u32) -> Found
+        ensures weight { result.weight ≡ weight }
+        ensures steps { result.steps ≡ steps_at (bank_seen (S.OperatorSet.meaning self.now.set) self.now.sheet.rows.count bank.now) (candidate_seen (S.OperatorSet.meaning self.now.set) candidate) }
     {
-        let used = self.used(bank, candidate);
-        (weight, tallied(&used) + 1)
+        Found {
+            weight,
+            steps: self.marks_of(bank, candidate).count() + 1,
+        }
     }
 }

@@ -1,8 +1,8 @@
-ghost use Rattle.std.specs.Prelude.{◌≡◌, ℕ, ◌<◌, ◌≤◌, [], ◌∷◌, length, get_or, take, slice_index_or};
+ghost use Rattle.std.specs.Prelude.{◌≡◌, ℕ, ◌<◌, ◌≤◌, [], ◌∷◌, get_or, take, slice_index_or};
 ghost use Rattle.search.specs.Stored.{column_of, weight_of, no_row};
 ghost use Rattle.finder.specs.View.{rows_seen, bank_seen, candidate_seen, setting};
 
-use crate::bank::{Bank, Candidate};
+use crate::bank::{Bank, Candidate, Column};
 use crate::problem::Problem;
 use formulas::steps::Top;
 use measures::measure::Measure;
@@ -11,9 +11,8 @@ use operators::set::OperatorSet;
 
 impl<S: OperatorSet, M: Measure> Problem<S, M> {
     // The column of a candidate.
-    pub(crate) fn column_of(&self, bank: &Bank, candidate: Candidate) -> [u8; 16]
-        ensures long { length result ≡ 16 }
-        ensures bands { take self.now.sheet.count result ≡ column_of (setting (S.OperatorSet.meaning self.now.set) (M.Measure.meaning self.now.measure) self.now.sheet) (rows_seen self.now.sheet) (bank_seen (S.OperatorSet.meaning self.now.set) self.now.sheet.count bank.now) (candidate_seen (S.OperatorSet.meaning self.now.set) candidate) }
+    pub(crate) fn column_of(&self, bank: &Bank, candidate: Candidate) -> Column
+        ensures { take self.now.sheet.rows.count result.bands ≡ column_of (setting (S.OperatorSet.meaning self.now.set) (M.Measure.meaning self.now.measure) self.now.sheet) (rows_seen self.now.sheet) (bank_seen (S.OperatorSet.meaning self.now.set) self.now.sheet.rows.count bank.now) (candidate_seen (S.OperatorSet.meaning self.now.set) candidate) }
     {
         match candidate.top {
             Top::Channel(channel) => self.channel_column(channel),
@@ -25,34 +24,32 @@ impl<S: OperatorSet, M: Measure> Problem<S, M> {
         }
     }
 
-    fn channel_column(&self, channel: u8) -> [u8; 16]
-        ensures long { length result ≡ 16 }
-        ensures bands { (j : ℕ) → j < self.now.sheet.count → slice_index_or result j 15 ≡ slice_index_or (get_or (rows_seen self.now.sheet) j no_row).bands channel 15 }
+    fn channel_column(&self, channel: u8) -> Column
+        ensures { (j : ℕ) → j < self.now.sheet.rows.count → slice_index_or result.bands j 15 ≡ slice_index_or (get_or (rows_seen self.now.sheet) j no_row).bands channel 15 }
     {
         let mut out = [15; 16];
-        for j in 0..self.sheet.count {
+        for j in 0..self.sheet.rows.len() {
             out[j] = self.sheet.band(j, channel);
         }
-        out
+        Column { bands: out }
     }
 
     // The column of an operator over its arguments' columns: the one caller of the set's `band`.
-    fn operator_column(&self, op: u8, first: &[u8; 16], second: &[u8; 16]) -> [u8; 16]
-        ensures long { length result ≡ 16 }
-        ensures bands { (j : ℕ) → j < self.now.sheet.count → slice_index_or result j 15 ≡ (S.OperatorSet.meaning self.now.set).band op (take ((S.OperatorSet.meaning self.now.set).arity op) (slice_index_or first.now j 15 ∷ slice_index_or second.now j 15 ∷ [])) }
+    fn operator_column(&self, op: u8, first: &Column, second: &Column) -> Column
+        ensures { (j : ℕ) → j < self.now.sheet.rows.count → slice_index_or result.bands j 15 ≡ (S.OperatorSet.meaning self.now.set).band op (take ((S.OperatorSet.meaning self.now.set).arity op) (slice_index_or first.now.bands j 15 ∷ slice_index_or second.now.bands j 15 ∷ [])) }
     {
         let mut out = [15; 16];
         let n = self.set.arity(op) as usize;
-        for j in 0..self.sheet.count {
-            let args = [first[j], second[j]];
+        for j in 0..self.sheet.rows.len() {
+            let args = [first.bands[j], second.bands[j]];
             out[j] = self.set.band(op, &args[..n]);
         }
-        out
+        Column { bands: out }
     }
 
     // The weight of a candidate.
     pub(crate) fn weight_of(&self, bank: &Bank, candidate: Candidate) -> Weight
-        ensures { result.value ≡ weight_of (setting (S.OperatorSet.meaning self.now.set) (M.Measure.meaning self.now.measure) self.now.sheet) (bank_seen (S.OperatorSet.meaning self.now.set) self.now.sheet.count bank.now) (candidate_seen (S.OperatorSet.meaning self.now.set) candidate) }
+        ensures { result.value ≡ weight_of (setting (S.OperatorSet.meaning self.now.set) (M.Measure.meaning self.now.measure) self.now.sheet) (bank_seen (S.OperatorSet.meaning self.now.set) self.now.sheet.rows.count bank.now) (candidate_seen (S.OperatorSet.meaning self.now.set) candidate) }
     {
         match candidate.top {
             Top::Channel(channel) => self.measure.channel(channel),

@@ -17,6 +17,13 @@ impl Weight {
         Weight { value: 1 }
     }
 
+    // The weight that is greater than all others.
+    pub fn beyond() -> Weight
+        ensures { result.value ≡ 1000001 }
+    {
+        Weight { value: BEYOND }
+    }
+
     // The weight `n`: 1 where that is 0, and beyond where it is past 1,000,000.
     pub fn clamped(n: u32) -> Weight
         ensures { result.value ≡ max 1 (min n 1000001) }

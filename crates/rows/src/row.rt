@@ -7,3 +7,13 @@ pub struct Row {
     pub bands: [u8; 8],
     ghost wide: { length bands ≡ 8 },
 }
+
+// What stands where there is no row.
+impl Default for Row {
+    fn default() -> Row {
+        Row {
+            wanted: 0,
+            bands: [15; 8],
+        }
+    }
+}

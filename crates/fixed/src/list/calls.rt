@@ -17,7 +17,8 @@ impl<T: Copy, const N: usize> FixedList<T, N> {
 
     // How many values stand.
     pub fn len(&self) -> usize
-        ensures { result ≡ length (listed self.now) }
+        ensures count { result ≡ self.now.count }
+        ensures length { result ≡ length (listed self.now) }
     {
         self.as_slice().len()
     }

@@ -12,7 +12,7 @@ loop-channel-preserved g c =
     let m = g.S.OperatorSet.meaning f.set in
     let E = setting m (g.M.Measure.meaning f.measure) f.sheet in
     let R = rows_seen f.sheet in
-    let n = f.sheet.count in
+    let n = f.sheet.rows.count in
     let F = build E R c.args.weight in
     through_more F channel f.sheet.channels.value (held_seen m n c.loop-channel.bank) (held_seen m n c.offer.new.bank) _ c.loop-channel.channel (omega (arith, c.get-channels.ensures)) c.loop-channel.invariant
     (λ rest. build-past E R c.args.weight _ _ _ rest c.offer.result c.if-offer.false c.offer.ensures)
@@ -23,7 +23,7 @@ returns-then-offer g c rest =
     let m = g.S.OperatorSet.meaning f.set in
     let E = setting m (g.M.Measure.meaning f.measure) f.sheet in
     let R = rows_seen f.sheet in
-    let n = f.sheet.count in
+    let n = f.sheet.rows.count in
     let F = build E R c.args.weight in
     build_hit E R c.args.weight (held_seen m n c.loop-channel.bank) (held_seen m n c.offer.new.bank) _ _ c.offer.result c.if-offer.true c.offer.ensures
     ∙ through_turn F channel f.sheet.channels.value _ refl _ _ c.loop-channel.channel (omega (arith, c.get-channels.ensures)) c.loop-channel.invariant rest
@@ -34,6 +34,6 @@ returns g c rest =
     let m = g.S.OperatorSet.meaning f.set in
     let E = setting m (g.M.Measure.meaning f.measure) f.sheet in
     let R = rows_seen f.sheet in
-    let n = f.sheet.count in
+    let n = f.sheet.rows.count in
     let F = build E R c.args.weight in
     through_all F channel f.sheet.channels.value _ refl _ _ c.loop-channel.channel (omega (arith, c.get-channels.ensures)) c.loop-channel.invariant rest

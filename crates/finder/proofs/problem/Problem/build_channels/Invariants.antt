@@ -9,5 +9,5 @@ invariant-loop-channel g l =
     let m = g.S.OperatorSet.meaning l.self.set in
     let E = setting m (g.M.Measure.meaning l.self.measure) l.self.sheet in
     let F = build E (rows_seen l.self.sheet) l.weight in
-    let n = l.self.sheet.count in
+    let n = l.self.sheet.rows.count in
     Through F channel l.self.sheet.channels.value (held_seen m n l.bank) l.channel (held_seen m n l.initial.bank)

@@ -20,7 +20,7 @@ loop-second-preserved g c =
     let m = g.S.OperatorSet.meaning f.set in
     let E = setting m (g.M.Measure.meaning f.measure) f.sheet in
     let R = rows_seen f.sheet in
-    let n = f.sheet.count in
+    let n = f.sheet.rows.count in
     let F = build E R c.args.weight in (
       c.loop-second.invariant.0,
       through_more F (cell (m.arity c.operators.op) c.operators.op c.loop-first.first) c.turns-seconds.result (held_seen m n c.loop-second.bank) (held_seen m n c.offer.new.bank) _ c.loop-second.second c.loop-second-test.true c.loop-second.invariant.1
@@ -33,7 +33,7 @@ loop-first-preserved g c =
     let m = g.S.OperatorSet.meaning f.set in
     let E = setting m (g.M.Measure.meaning f.measure) f.sheet in
     let R = rows_seen f.sheet in
-    let n = f.sheet.count in
+    let n = f.sheet.rows.count in
     let F = build E R c.args.weight in (
       c.loop-second.invariant.0,
       through_more F (row (m.arity c.operators.op) c.args.places c.operators.op) c.turns-firsts.result (held_seen m n c.loop-first.bank) (held_seen m n c.loop-second.bank) _ c.loop-first.first c.loop-first-test.true c.loop-first.invariant.1
@@ -46,7 +46,7 @@ operators-preserved g c =
     let m = g.S.OperatorSet.meaning f.set in
     let E = setting m (g.M.Measure.meaning f.measure) f.sheet in
     let R = rows_seen f.sheet in
-    let n = f.sheet.count in
+    let n = f.sheet.rows.count in
     let F = build E R c.args.weight in (
       c.loop-first.invariant.0,
       through_more F (block m.arity c.args.places) m.count (held_seen m n c.operators.bank) (held_seen m n c.loop-first.bank) _ c.operators.op (omega (arith, c.count-op-end.ensures)) c.operators.invariant.1
@@ -59,7 +59,7 @@ returns-then-offer g c rest =
     let m = g.S.OperatorSet.meaning f.set in
     let E = setting m (g.M.Measure.meaning f.measure) f.sheet in
     let R = rows_seen f.sheet in
-    let n = f.sheet.count in
+    let n = f.sheet.rows.count in
     let F = build E R c.args.weight in
     let d = (goal.at.returns-then-offer g c).After-turns-seconds in
     build_hit E R c.args.weight (held_seen m n c.loop-second.bank) (held_seen m n c.offer.new.bank) _ _ c.offer.result c.if-offer.true c.offer.ensures

@@ -10,7 +10,7 @@ invariant-operators g l =
     let m = g.S.OperatorSet.meaning l.self.set in
     let E = setting m (g.M.Measure.meaning l.self.measure) l.self.sheet in
     let F = build E (rows_seen l.self.sheet) l.weight in
-    let n = l.self.sheet.count in
+    let n = l.self.sheet.rows.count in
     (l.found ≡ None) × Through F (block m.arity l.places) m.count (held_seen m n l.bank) l.op (held_seen m n l.initial.bank)
 
 abbrev pub invariant-loop-first : goal.invariant-loop-first
@@ -18,7 +18,7 @@ invariant-loop-first g l =
     let m = g.S.OperatorSet.meaning l.self.set in
     let E = setting m (g.M.Measure.meaning l.self.measure) l.self.sheet in
     let F = build E (rows_seen l.self.sheet) l.weight in
-    let n = l.self.sheet.count in
+    let n = l.self.sheet.rows.count in
     (l.found ≡ None) × Through F (row (m.arity l.op) l.places l.op) l.firsts (held_seen m n l.bank) l.first (held_seen m n l.initial.bank)
 
 abbrev pub invariant-loop-second : goal.invariant-loop-second
@@ -26,5 +26,5 @@ invariant-loop-second g l =
     let m = g.S.OperatorSet.meaning l.self.set in
     let E = setting m (g.M.Measure.meaning l.self.measure) l.self.sheet in
     let F = build E (rows_seen l.self.sheet) l.weight in
-    let n = l.self.sheet.count in
+    let n = l.self.sheet.rows.count in
     (l.found ≡ None) × Through F (cell (m.arity l.op) l.op l.first) l.seconds (held_seen m n l.bank) l.second (held_seen m n l.initial.bank)

@@ -1,6 +1,7 @@
-use Rattle.std.proofs.Common.{◌∙◌}
+use Rattle.std.proofs.Common.{Some, None, sym, ◌∙◌, arith}
 use Rattle.finder.specs.View.{setting, rows_seen, bank_seen, candidate_seen}
 use Rattle.search.proofs.Offers.{known, unknown, lower-known, lower-new, lower_not, lower_last}
+use Rattle.finder.proofs.Seen.{looked_by}
 use Rattle.finder.proofs.problem.Problem.lowered.Goals as goal
 
 pub returns-in-Some : goal.returns-in-Some
@@ -8,33 +9,33 @@ returns-in-Some g c =
     let f = c.args.self.now in
     let m = g.S.OperatorSet.meaning f.set in
     let E = setting m (g.M.Measure.meaning f.measure) f.sheet in
-    let ps = bank_seen m f.sheet.count c.args.bank.now in
+    let ps = bank_seen m f.sheet.rows.count c.args.bank.now in
     let t = candidate_seen m c.args.candidate in
-    lower-known E (rows_seen f.sheet) ps t c.args.best (known E (rows_seen f.sheet) ps t _ c.in-Some.field-0 c.column_of-column.ensures.bands (c.in-Some.ensures m))
+    lower-known E (rows_seen f.sheet) ps t c.args.best.value (known E (rows_seen f.sheet) ps t _ c.in-Some.field-0 c.column_of-column.ensures (looked_by m c.args.bank.now _ (Some c.in-Some.field-0) _ _ c.len.ensures.count (c.in-Some.ensures m)))
 
 pub returns-in-None : goal.returns-in-None
 returns-in-None g c =
     let f = c.args.self.now in
     let m = g.S.OperatorSet.meaning f.set in
     let E = setting m (g.M.Measure.meaning f.measure) f.sheet in
-    let ps = bank_seen m f.sheet.count c.args.bank.now in
+    let ps = bank_seen m f.sheet.rows.count c.args.bank.now in
     let t = candidate_seen m c.args.candidate in
-    lower-new E (rows_seen f.sheet) ps t c.args.best c.value-weight.result c.args.last (c.value-weight.ensures ∙ c.weight_of.ensures) c.requires c.if-weight-last.false c.if-weight-best.true (unknown E (rows_seen f.sheet) ps t _ c.column_of-column.ensures.bands (c.in-None.ensures m))
+    sym c.value-weight.ensures ∙ lower-new E (rows_seen f.sheet) ps t c.args.best.value c.value-weight.result c.args.last (c.value-weight.ensures ∙ c.weight_of-own.ensures) c.requires c.if-weight-last.false (omega (arith, c.if-weight-lowest.true, c.value-lowest.ensures)) (unknown E (rows_seen f.sheet) ps t _ c.column_of-column.ensures (looked_by m c.args.bank.now c.column_of-column.result.bands None _ _ c.len.ensures.count (c.in-None.ensures m)))
 
-pub returns-else-weight-best : goal.returns-else-weight-best
-returns-else-weight-best g c =
+pub returns-else-weight-lowest : goal.returns-else-weight-lowest
+returns-else-weight-lowest g c =
     let f = c.args.self.now in
     let m = g.S.OperatorSet.meaning f.set in
     let E = setting m (g.M.Measure.meaning f.measure) f.sheet in
-    let ps = bank_seen m f.sheet.count c.args.bank.now in
+    let ps = bank_seen m f.sheet.rows.count c.args.bank.now in
     let t = candidate_seen m c.args.candidate in
-    lower_not E (rows_seen f.sheet) ps t c.args.best c.value-weight.result (c.value-weight.ensures ∙ c.weight_of.ensures) c.if-weight-best.false
+    lower_not E (rows_seen f.sheet) ps t c.args.best.value c.value-weight.result (c.value-weight.ensures ∙ c.weight_of-own.ensures) (omega (arith, c.if-weight-lowest.false, c.value-lowest.ensures))
 
 pub returns-then-weight-last : goal.returns-then-weight-last
 returns-then-weight-last g c =
     let f = c.args.self.now in
     let m = g.S.OperatorSet.meaning f.set in
     let E = setting m (g.M.Measure.meaning f.measure) f.sheet in
-    let ps = bank_seen m f.sheet.count c.args.bank.now in
+    let ps = bank_seen m f.sheet.rows.count c.args.bank.now in
     let t = candidate_seen m c.args.candidate in
-    lower_last E (rows_seen f.sheet) ps t c.args.best c.value-weight.result c.args.last (c.value-weight.ensures ∙ c.weight_of.ensures) c.requires c.if-weight-last.true
+    lower_last E (rows_seen f.sheet) ps t c.args.best.value c.value-weight.result c.args.last (c.value-weight.ensures ∙ c.weight_of-own.ensures) c.requires c.if-weight-last.true

@@ -1,9 +1,9 @@
-use Rattle.std.proofs.Common.{◌≡◌, ℕ, ◌≤◌, List, length, take, sym, ap, ◌∙◌, ap₂, arith}
+use Rattle.std.proofs.Common.{◌≡◌, ℕ, List, take, sym, ap, ◌∙◌, ap₂, arith}
 use Rattle.search.specs.Places as places
 use Rattle.search.specs.Stored.{built}
 use Rattle.search.specs.Marks.{steps_at}
 use Rattle.search.specs.Machine.{Answer, Move, State, found, none, full, level, by_room, is_found, is_none, is_full, is_open}
-use Rattle.search.proofs.Rules.{built_keeps, built-longer, rule_above, rule_found, rule_limit, rule_room}
+use Rattle.search.proofs.Rules.{built_keeps, rule_above, rule_found, rule_limit, rule_room}
 use Rattle.finder.specs.View.{bank_seen, held_seen, rows_seen, candidate_seen, setting}
 use Rattle.finder.specs.Whole.{whole}
 use Rattle.finder.specs.declared.state.State.TheVariants.{Open}
@@ -17,101 +17,77 @@ returns-then-weight-limit g c =
     let f = c.args.self.now in
     let b = c.args.bank.now in
     let m = g.S.OperatorSet.meaning f.set in
-    let n = f.sheet.count in
+    let n = f.sheet.rows.count in
     let E = setting m (g.M.Measure.meaning f.measure) f.sheet in
     let st = whole m f.sheet b Open in
-    let w = c.level-weight.result in
-    rule_above E st w c.level-weight.ensures (omega (arith, c.get-limit.ensures))
+    let w = c.value-weight.result in
+    rule_above E st w (c.value-weight.ensures ∙ c.level-level.ensures) (omega (arith, c.get-limit.ensures))
 
 abbrev move_to : Answer → State → Move
 move_to a s = record { answer = a; after = s }
 
--- what is built has the places that were filled, and maybe more
-longer : (g : given.Over) (c : After-build-found g) → c.args.bank.now.filled ≤ c.build-found.new.bank.filled
-longer g c =
-    let f = c.args.self.now in
-    let b = c.args.bank.now in
-    let m = g.S.OperatorSet.meaning f.set in
-    let n = f.sheet.count in
-    let E = setting m (g.M.Measure.meaning f.measure) f.sheet in
-    let st = whole m f.sheet b Open in
-    let w = c.level-weight.result in
-    let e = ap (λ r. length r.1.places) c.build-found.ensures in
-    let l = built-longer E (rows_seen f.sheet) w (bank_seen m n b) in
-    let l1 = seen_length m n b in
-    let l2 = seen_length m n c.build-found.new.bank in
-    omega arith
-
-kept-places : (g : given.Over) (c : After-build-found g) → (let f = c.args.self.now in let b = c.args.bank.now in let m = g.S.OperatorSet.meaning f.set in let n = f.sheet.count in take b.filled (bank_seen m n c.build-found.new.bank) ≡ bank_seen m n b)
+-- what was filled is what stands of it
+kept-places : (g : given.Over) (c : After-build-found g) → (let f = c.args.self.now in let b = c.args.bank.now in let m = g.S.OperatorSet.meaning f.set in let n = f.sheet.rows.count in take c.len-filled.result (bank_seen m n c.build-found.new.bank) ≡ bank_seen m n b)
 kept-places g c =
     let f = c.args.self.now in
     let b = c.args.bank.now in
     let m = g.S.OperatorSet.meaning f.set in
-    let n = f.sheet.count in
+    let n = f.sheet.rows.count in
     let E = setting m (g.M.Measure.meaning f.measure) f.sheet in
     let st = whole m f.sheet b Open in
-    let w = c.level-weight.result in
-    ap (λ r. take b.filled r.1.places) c.build-found.ensures
-    ∙ ap (λ k. take k (built E (rows_seen f.sheet) w (bank_seen m n b)).1.places) (sym (seen_length m n b))
+    let w = c.value-weight.result in
+    ap (λ r. take c.len-filled.result r.1.places) c.build-found.ensures
+    ∙ ap (λ k. take k (built E (rows_seen f.sheet) w (bank_seen m n b)).1.places) (c.len-filled.ensures.count ∙ sym (seen_length m n b))
     ∙ built_keeps E (rows_seen f.sheet) w (bank_seen m n b)
-
-pub cut-requires : goal.cut-requires
-cut-requires g c = longer g (goal.at.cut-requires g c).After-build-found
-
-pub cut-requires-then-weight-limit-2 : goal.cut-requires-then-weight-limit-2
-cut-requires-then-weight-limit-2 g c = longer g (goal.at.cut-requires-then-weight-limit-2 g c).After-build-found
-
-pub cut-requires-then-bank : goal.cut-requires-then-bank
-cut-requires-then-bank g c = longer g (goal.at.cut-requires-then-bank g c).After-build-found
 
 pub returns-in-Some : goal.returns-in-Some
 returns-in-Some g c =
     let f = c.args.self.now in
     let b = c.args.bank.now in
     let m = g.S.OperatorSet.meaning f.set in
-    let n = f.sheet.count in
+    let n = f.sheet.rows.count in
     let E = setting m (g.M.Measure.meaning f.measure) f.sheet in
     let st = whole m f.sheet b Open in
-    let w = c.level-weight.result in
+    let w = c.value-weight.result in
     let t = candidate_seen m c.in-Some.candidate in
     let q : bank_seen m n c.cut.new.self ≡ bank_seen m n b = c.cut.ensures m n ∙ kept-places g (goal.at.returns-in-Some g c).After-build-found in
-    ap₂ (λ (ps : List places.Place) (p : ℕ × ℕ). move_to (found p.0 p.1) (record { rows = st.rows; limit = st.limit; places = ps; status = is_found t p.0 p.1 })) q (c.counted-pair.ensures ∙ ap (λ p. (w, steps_at p t)) q)
-    ∙ rule_found E st w c.level-weight.ensures (omega (arith, c.get-limit.ensures)) (held_seen m n c.build-found.new.bank) t c.in-Some.ensures
+    ap₂ (λ (ps : List places.Place) (p : ℕ × ℕ). move_to (found p.0 p.1) (record { rows = st.rows; limit = st.limit; places = ps; status = is_found t p.0 p.1 })) q (ap₂ (λ (a b : ℕ). (a, b)) c.counted.ensures.weight (c.counted.ensures.steps ∙ ap (λ p. steps_at p t) q))
+    ∙ rule_found E st w (c.value-weight.ensures ∙ c.level-level.ensures) (omega (arith, c.get-limit.ensures)) (held_seen m n c.build-found.new.bank) t c.in-Some.ensures
 
 pub returns-then-weight-limit-2 : goal.returns-then-weight-limit-2
 returns-then-weight-limit-2 g c =
     let f = c.args.self.now in
     let b = c.args.bank.now in
     let m = g.S.OperatorSet.meaning f.set in
-    let n = f.sheet.count in
+    let n = f.sheet.rows.count in
     let E = setting m (g.M.Measure.meaning f.measure) f.sheet in
     let st = whole m f.sheet b Open in
-    let w = c.level-weight.result in
+    let w = c.value-weight.result in
     ap (λ (ps : List places.Place). move_to none (record { rows = st.rows; limit = st.limit; places = ps; status = is_none })) (c.cut-then-weight-limit-2.ensures m n ∙ kept-places g (goal.at.returns-then-weight-limit-2 g c).After-build-found)
-    ∙ rule_limit E st w c.level-weight.ensures (omega (arith, c.get-limit.ensures)) (held_seen m n c.build-found.new.bank) c.in_default.ensures (c.if-weight-limit-2.true ∙ c.get-limit.ensures)
+    ∙ rule_limit E st w (c.value-weight.ensures ∙ c.level-level.ensures) (omega (arith, c.get-limit.ensures)) (held_seen m n c.build-found.new.bank) c.in_default.ensures (c.if-weight-limit-2.true ∙ c.get-limit.ensures)
 
 pub returns-then-bank : goal.returns-then-bank
 returns-then-bank g c =
     let f = c.args.self.now in
     let b = c.args.bank.now in
     let m = g.S.OperatorSet.meaning f.set in
-    let n = f.sheet.count in
+    let n = f.sheet.rows.count in
     let E = setting m (g.M.Measure.meaning f.measure) f.sheet in
     let st = whole m f.sheet b Open in
-    let w = c.level-weight.result in
+    let w = c.value-weight.result in
     ap (λ (ps : List places.Place). move_to full (record { rows = st.rows; limit = st.limit; places = ps; status = is_full })) (c.cut-then-bank.ensures m n ∙ kept-places g (goal.at.returns-then-bank g c).After-build-found)
     ∙ ap (by_room st w (bank_seen m n c.build-found.new.bank)) (sym c.if-bank.true)
-    ∙ rule_room E st w c.level-weight.ensures (omega (arith, c.get-limit.ensures)) (held_seen m n c.build-found.new.bank) c.in_default.ensures (λ e. c.if-weight-limit-2.false (e ∙ sym c.get-limit.ensures))
+    ∙ rule_room E st w (c.value-weight.ensures ∙ c.level-level.ensures) (omega (arith, c.get-limit.ensures)) (held_seen m n c.build-found.new.bank) c.in_default.ensures (λ e. c.if-weight-limit-2.false (e ∙ sym c.get-limit.ensures))
 
 pub returns : goal.returns
 returns g c =
     let f = c.args.self.now in
     let b = c.args.bank.now in
     let m = g.S.OperatorSet.meaning f.set in
-    let n = f.sheet.count in
+    let n = f.sheet.rows.count in
     let E = setting m (g.M.Measure.meaning f.measure) f.sheet in
     let st = whole m f.sheet b Open in
-    let w = c.level-weight.result in
-    ap (λ (k : ℕ). move_to (level w k) (record { rows = st.rows; limit = st.limit; places = bank_seen m n c.build-found.new.bank; status = is_open })) (sym (seen_length m n c.build-found.new.bank))
+    let w = c.value-weight.result in
+    ap (λ (k : ℕ). move_to (level w k) (record { rows = st.rows; limit = st.limit; places = bank_seen m n c.build-found.new.bank; status = is_open })) (c.len.ensures.count ∙ sym (seen_length m n c.build-found.new.bank))
     ∙ ap (by_room st w (bank_seen m n c.build-found.new.bank)) (sym c.if-bank.false)
-    ∙ rule_room E st w c.level-weight.ensures (omega (arith, c.get-limit.ensures)) (held_seen m n c.build-found.new.bank) c.in_default.ensures (λ e. c.if-weight-limit-2.false (e ∙ sym c.get-limit.ensures))
+    ∙ rule_room E st w (c.value-weight.ensures ∙ c.level-level.ensures) (omega (arith, c.get-limit.ensures)) (held_seen m n c.build-found.new.bank) c.in_default.ensures (λ e. c.if-weight-limit-2.false (e ∙ sym c.get-limit.ensures))

@@ -13,12 +13,12 @@ loop-j-preserved g c =
     let m = g.S.OperatorSet.meaning c.args.self.now.set in
     let j = c.loop-j.j in
     let t = c.loop-j-test.true in
-    let few = c.args.self.now.sheet.few in
+    let few = c.args.self.now.sheet.rows.few in
     let long = c.loop-j.invariant.0 in (
       length-set c.loop-j.out j c.band.result ∙ long,
-      below_more (λ k. get_or (set c.loop-j.out j c.band.result) k 15 ≡ m.band c.args.op (take (m.arity c.args.op) (get_or c.args.first.now k 15 ∷ get_or c.args.second.now k 15 ∷ []))) j
+      below_more (λ k. get_or (set c.loop-j.out j c.band.result) k 15 ≡ m.band c.args.op (take (m.arity c.args.op) (get_or c.args.first.now.bands k 15 ∷ get_or c.args.second.now.bands k 15 ∷ []))) j
           (λ k l. let ne : k ≢ j = omega arith in get_or-set_other c.loop-j.out j k c.band.result 15 ne ∙ c.loop-j.invariant.1 k l)
           (get_or-set_same c.loop-j.out j c.band.result 15 (omega arith) ∙ c.band.ensures
-          ∙ ap (λ n. m.band c.args.op (take n (get_or c.args.first.now j 0 ∷ get_or c.args.second.now j 0 ∷ []))) c.arity-n.ensures
-          ∙ ap₂ (λ x y. m.band c.args.op (take (m.arity c.args.op) (x ∷ y ∷ []))) (get_or_default c.args.first.now j 0 15 (omega arith)) (get_or_default c.args.second.now j 0 15 (omega arith))),
+          ∙ ap (λ n. m.band c.args.op (take n (get_or c.args.first.now.bands j 0 ∷ get_or c.args.second.now.bands j 0 ∷ []))) c.arity-n.ensures
+          ∙ ap₂ (λ x y. m.band c.args.op (take (m.arity c.args.op) (x ∷ y ∷ []))) (get_or_default c.args.first.now.bands j 0 15 (omega arith)) (get_or_default c.args.second.now.bands j 0 15 (omega arith))),
     )

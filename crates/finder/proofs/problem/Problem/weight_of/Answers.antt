@@ -15,5 +15,5 @@ returns-in-Operator g c =
     let f = c.args.self.now in
     let m = g.S.OperatorSet.meaning f.set in
     c.operator.ensures
-    ∙ weight_two (setting m (g.M.Measure.meaning f.measure) f.sheet) (bank_seen m f.sheet.count c.args.bank.now) c.in-Operator.op c.args.candidate c.in-Operator.is
-    ((g.met.S.OperatorSet.lawful f.set).narrow c.in-Operator.op) c.weight.result c.weight-in-Operator.result c.arity-n.result c.arity-n.ensures (c.weight.ensures m f.sheet.count) (c.weight-in-Operator.ensures m f.sheet.count)
+    ∙ weight_two (setting m (g.M.Measure.meaning f.measure) f.sheet) (bank_seen m f.sheet.rows.count c.args.bank.now) c.in-Operator.op c.args.candidate c.in-Operator.is
+    ((g.met.S.OperatorSet.lawful f.set).narrow c.in-Operator.op) c.weight.result c.weight-in-Operator.result c.arity-n.result c.arity-n.ensures (c.weight.ensures m f.sheet.rows.count) (c.weight-in-Operator.ensures m f.sheet.rows.count)

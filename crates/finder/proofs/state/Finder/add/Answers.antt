@@ -1,10 +1,11 @@
-use Rattle.std.proofs.Common.{ℕ, [], None, Err, Option, Result, refl, ap, ◌∙◌}
+use Rattle.std.proofs.Common.{ℕ, List, [], map, None, Err, Option, Result, refl, ap, ◌∙◌}
 use Rattle.refusals.specs.Numbers.{sheet_refusal, refused_by}
 use Rattle.refusals.specs.declared.sheet.SheetRefusal.{SheetRefusal}
 use Rattle.search.specs.Machine.{State, Change, is_open}
 use Rattle.std.proofs.lemmas.Result.{err_from_is_err_and}
 use Rattle.rows.specs.declared.limit.Limit.{Limit}
-use Rattle.finder.specs.View.{rows_seen}
+use Rattle.finder.specs.declared.bank.Place.{Place}
+use Rattle.finder.specs.View.{rows_seen, place_seen}
 use Rattle.finder.specs.Whole.{finder_seen, finder_setting}
 use Rattle.finder.proofs.Calls.{add_done, add-refused, put_last}
 use Rattle.finder.proofs.state.Finder.add.Goals as goal
@@ -28,8 +29,9 @@ returns g c =
     record {
       kept = record { set = refl; measure = refl; channels = p.rest.0 };
       moves =
-          ap (λ (n : ℕ). changed None (record { rows = rows_seen t; limit = n; places = []; status = is_open })) (ap (λ (l : Limit). l.value) p.rest.1)
-          ∙ add_done E st s refl bytes refl c.in_ok-row.ensures.room c.in_ok-row.row c.in_ok-row.ensures.row (rows_seen t) (put_last s t c.in_ok-row.row c.in_ok-row.ensures.room p.rows p.count p.rest.0);
+          ap (λ (ps : List Place). changed None (record { rows = rows_seen t; limit = t.limit.value; places = map (place_seen m t.rows.count) ps; status = is_open })) c.truncate.ensures
+          ∙ ap (λ (n : ℕ). changed None (record { rows = rows_seen t; limit = n; places = []; status = is_open })) (ap (λ (l : Limit). l.value) p.rest.1)
+          ∙ add_done E st s refl bytes refl c.in_ok-row.ensures.room c.in_ok-row.row c.in_ok-row.ensures.row (rows_seen t) (put_last s t c.in_ok-row.row p.rows p.rest.0);
     }
 
 pub returns-in_err-row : goal.returns-in_err-row

@@ -7,6 +7,6 @@ returns g c =
     record {
       set = refl;
       measure = refl;
-      channels = c.no_rows.ensures.channels;
-      fresh = opens (g.S.OperatorSet.meaning c.args.set) c.no_rows.result c.no_places.result c.args.limit.value c.no_rows.ensures.count c.no_places.ensures (ap (λ l. l.value) c.no_rows.ensures.limit);
+      channels = c.«open».ensures.channels;
+      fresh = opens (g.S.OperatorSet.meaning c.args.set) c.«open».result c.empty.result c.args.limit.value c.«open».ensures.rows c.empty.ensures (ap (λ l. l.value) c.«open».ensures.limit);
     }

@@ -119,32 +119,14 @@ pub length-wanted : (rs : List StandingRow) → length (wanted_of rs) ≡ length
 length-wanted [] = refl
 length-wanted (r ∷ rs) = ap suc (length-wanted rs)
 
-wanted-at : (rs : List StandingRow) (j d : ℕ) (r : StandingRow) → j < length rs → get_or (wanted_of rs) j d ≡ (get_or rs j r).wanted
-wanted-at [] j d r l = absurd (omega arith)
-wanted-at (x ∷ rs) zero d r l = refl
-wanted-at (x ∷ rs) (suc j) d r l = wanted-at rs j d r (omega arith)
+-- the wanted bands of rows as they are stored
+pub wanted_stored : (n : ℕ) (rs : List Row) → wanted_of (map (row_seen n) rs) ≡ map (λ (r : Row). r.wanted) rs
+wanted_stored n [] = refl
+wanted_stored n (r ∷ rs) = ap (λ l. r.wanted ∷ l) (wanted_stored n rs)
 
 module _ (s : Sheet) where
   pub rows-length : length (rows_seen s) ≡ s.rows.count
   rows-length = let k = s.rows.few in let t = s.rows.whole in front_length (row_seen s.channels.value) s.rows.table s.rows.count (omega arith)
-
-  pub wanted_seen : (j d : ℕ) (r : Row) → j < s.rows.count → get_or (wanted_of (rows_seen s)) j d ≡ (get_or s.rows.table j r).wanted
-  wanted_seen j d r l =
-      let k = s.rows.few in let t = s.rows.whole in let n = rows-length in
-      wanted-at (rows_seen s) j d no_row (omega arith) ∙ ap (λ (x : StandingRow). x.wanted) (front_at (row_seen s.channels.value) s.rows.table s.rows.count j r no_row l (omega arith))
-
-  pub wanted_listed : (j d : ℕ) (r : Row) → j < s.rows.count → get_or (wanted_of (rows_seen s)) j d ≡ (get_or (listed s.rows) j r).wanted
-  wanted_listed j d r l = wanted_seen j d r l ∙ ap (λ (x : Row). x.wanted) (sym (get_or-take s.rows.count s.rows.table j r l))
-
-  -- the wanted column up to j + 1
-  pub wanted-more : (column : List ℕ) (j : ℕ) → j < s.rows.count → length column ≡ 16 → take j column ≡ take j (wanted_of (rows_seen s)) → get_or column j 0 ≡ get_or (wanted_of (rows_seen s)) j 0 → take (j + 1) column ≡ take (j + 1) (wanted_of (rows_seen s))
-  wanted-more column j l c inv e = let k = s.rows.few in let n = rows-length in let w = length-wanted (rows_seen s) in take_more_same column (wanted_of (rows_seen s)) j 0 (omega arith) (omega arith) inv e
-
-  pub wanted-all : (column : List ℕ) (j : ℕ) → s.rows.count ≤ j → j ≤ s.rows.count → take j column ≡ take j (wanted_of (rows_seen s)) → take s.rows.count column ≡ wanted_of (rows_seen s)
-  wanted-all column j l m inv = let n = rows-length in let w = length-wanted (rows_seen s) in let e : s.rows.count ≡ j = omega arith in ap (λ i. take i column) e ∙ inv ∙ take_all j (wanted_of (rows_seen s)) (omega arith)
-
-  pub wanted_not : (column : List ℕ) (j : ℕ) → j < s.rows.count → (get_or column j 0 ≡ get_or (wanted_of (rows_seen s)) j 0 → ⊥) → take s.rows.count column ≡ wanted_of (rows_seen s) → ⊥
-  wanted_not column j l ne e = ne (sym (get_or-take s.rows.count column j 0 l) ∙ ap (λ c. get_or c j 0) e)
 
   pub row-past : (j i : ℕ) → j < s.rows.count → s.channels.value ≤ i → get_or (get_or (rows_seen s) j no_row).bands i 15 ≡ 15
   row-past j i l m =

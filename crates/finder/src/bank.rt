@@ -1,4 +1,4 @@
-ghost use Rattle.std.specs.Prelude.{◌≡◌, [], ◌≤◌, length};
+ghost use Rattle.std.specs.Prelude.{◌≡◌, ℕ, ◌<◌, ◌≤◌, [], length, slice_index_or};
 ghost use Rattle.fixed.specs.Listed.{listed};
 
 use fixed::list::FixedList;
@@ -19,6 +19,21 @@ pub struct Candidate {
 pub struct Column {
     pub(crate) bands: [u8; 16],
     ghost tall: { length bands ≡ 16 },
+}
+
+impl Column {
+    // The column of the bands that a rule gives for the first `n` rows, and marks behind them.
+    pub(crate) fn of<F: Fn(usize) -> u8>(n: usize, band: F) -> Column
+        requires few { n ≤ 16 }
+        requires can { (j : ℕ) → j < n → F.pre band j }
+        ensures { (j : ℕ) → j < n → F.post band j (slice_index_or result.bands j 15) }
+    {
+        let mut bands = [15; 16];
+        for j in 0..n {
+            bands[j] = band(j);
+        }
+        Column { bands }
+    }
 }
 
 // A place of the bank: a formula's column and weight, and what it is made of.

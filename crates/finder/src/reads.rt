@@ -1,10 +1,21 @@
-ghost use Rattle.std.specs.Prelude.{◌≡◌, ℕ, ◌<◌, get_or, take, Decides, slice_index_or};
+ghost use Rattle.std.specs.Prelude.{◌≡◌, ℕ, ◌<◌, get_or, length, map, take, Decides, slice_index_or};
 ghost use Rattle.rows.specs.Rows.{wanted_of};
 ghost use Rattle.search.specs.Stored.{no_row};
 ghost use Rattle.finder.specs.View.{rows_seen};
 
 use crate::bank::Column;
 use crate::sheet::Sheet;
+use rows::row::Row;
+
+// Whether the bands are those that the rows want, as many on both sides.
+fn gives(rows: &[Row], bands: &[u8]) -> bool
+    requires { length rows.now ≡ length bands.now }
+    ensures { Decides result (map (λ row. row.wanted) rows.now ≡ bands.now) }
+{
+    rows.iter()
+        .zip(bands)
+        .all(|(row, band)| row.wanted == *band)
+}
 
 impl Sheet {
     // The band of a channel in the row `j`.
@@ -23,11 +34,7 @@ impl Sheet {
     pub(crate) fn wants(&self, column: &Column) -> bool
         ensures { Decides result (take self.now.rows.count column.now.bands ≡ wanted_of (rows_seen self.now)) }
     {
-        for (j, row) in self.rows.as_slice().iter().enumerate() {
-            if column.bands[j] != row.wanted {
-                return false;
-            }
-        }
-        true
+        let rows = self.rows.as_slice();
+        gives(rows, &column.bands[..rows.len()])
     }
 }

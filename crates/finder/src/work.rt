@@ -27,24 +27,27 @@ impl<S: OperatorSet, M: Measure> Problem<S, M> {
     fn channel_column(&self, channel: u8) -> Column
         ensures { (j : ℕ) → j < self.now.sheet.rows.count → slice_index_or result.bands j 15 ≡ slice_index_or (get_or (rows_seen self.now.sheet) j no_row).bands channel 15 }
     {
-        let mut out = [15; 16];
-        for j in 0..self.sheet.rows.len() {
-            out[j] = self.sheet.band(j, channel);
-        }
-        Column { bands: out }
+        Column::of(self.sheet.rows.len(), |j| self.sheet.band(j, channel))
     }
 
-    // The column of an operator over its arguments' columns: the one caller of the set's `band`.
+    // The band of an operator over as many of two bands as it takes: the one caller of the set's `band`.
+    fn operator_band(&self, op: u8, arity: usize, first: u8, second: u8) -> u8
+        requires { arity ≡ (S.OperatorSet.meaning self.now.set).arity op }
+        ensures { result ≡ (S.OperatorSet.meaning self.now.set).band op (take ((S.OperatorSet.meaning self.now.set).arity op) (first ∷ second ∷ [])) }
+    {
+        let args = [first, second];
+        self.set.band(op, &args[..arity])
+    }
+
+    // The column of an operator over its arguments' columns.
     fn operator_column(&self, op: u8, first: &Column, second: &Column) -> Column
         ensures { (j : ℕ) → j < self.now.sheet.rows.count → slice_index_or result.bands j 15 ≡ (S.OperatorSet.meaning self.now.set).band op (take ((S.OperatorSet.meaning self.now.set).arity op) (slice_index_or first.now.bands j 15 ∷ slice_index_or second.now.bands j 15 ∷ [])) }
     {
-        let mut out = [15; 16];
-        let n = self.set.arity(op) as usize;
-        for j in 0..self.sheet.rows.len() {
-            let args = [first.bands[j], second.bands[j]];
-            out[j] = self.set.band(op, &args[..n]);
-        }
-        Column { bands: out }
+        let arity = self.set.arity(op) as usize;
+        Column::of(
+            self.sheet.rows.len(),
+            |j| self.operator_band(op, arity, first.bands[j], second.bands[j]),
+        )
     }
 
     // The weight of a candidate.

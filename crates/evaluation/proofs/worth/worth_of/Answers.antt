@@ -42,5 +42,5 @@ returns g c value values goes f says =
     ap number c.at.ensures ∙ sym (at_map number table _ c.absent.result)
     ∙ ap (get_or (map number table) _) c.absent.ensures
     ∙ ap (λ k. get_or (map number table) k g.W.Worth.absent) c.saturating_sub.ensures
-    ∙ ap (λ k. get_or (map number table) (k - 1) g.W.Worth.absent) c.len.ensures
+    ∙ ap (λ k. get_or (map number table) (k - 1) g.W.Worth.absent) c.len.ensures.length
     ∙ last_value m value steps g.W.Worth.absent c.loop-i.i (map number table) (c.loop-i.invariant.1 value values goes) (omega arith) f says

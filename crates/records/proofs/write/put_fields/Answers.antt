@@ -13,7 +13,3 @@ loop-step-preserved c =
     let i = c.loop-step.step-index in
     subst (λ x. Puts s c.put_field-at.new.out c.args.from c.put_field-at.result x) (fields_more xs i _ c.loop-step-test.true)
     (chain s c.loop-step.out c.put_field-at.new.out c.args.from c.loop-step.at c.put_field-at.result (flat_map field_of (take i xs)) (field_of (get_or xs i _)) c.loop-step.auto.out c.loop-step.invariant c.put_field-at.ensures)
-
-pub returns : goal.returns
-returns c =
-    subst (λ x. Puts c.args.out.now c.loop-step.out c.args.from c.loop-step.at x) (fields_all c.args.steps.now c.loop-step.step-index c.loop-step-test.false) c.loop-step.invariant

@@ -9,7 +9,3 @@ slice_bounds-spaces_only-count c = omega (arith, prefix_len-le-length letter c.a
 
 pub slice_bounds-spaces_only-start : goal.slice_bounds-spaces_only-start
 slice_bounds-spaces_only-start c = omega (arith, prefix_len-le-length letter c.args.bytes.now)
-
-pub returns-then-n-ge1 : goal.returns-then-n-ge1
-returns-then-n-ge1 c =
-    begun c.args.bytes.now c.letters-n.result c.spaces_only.result c.letters-n.ensures c.if-n-ge1.true c.spaces_only.ensures

@@ -27,13 +27,3 @@ returns-then-offer g c rest =
     let F = build E R c.args.weight in
     build_hit E R c.args.weight (held_seen m n c.loop-channel.bank) (held_seen m n c.offer.new.bank) _ _ c.offer.result c.if-offer.true c.offer.ensures
     ∙ through_turn F channel f.sheet.channels.value _ refl _ _ c.loop-channel.channel (omega (arith, c.get-channels.ensures)) c.loop-channel.invariant rest
-
-pub returns : goal.returns
-returns g c rest =
-    let f = c.args.self.now in
-    let m = g.S.OperatorSet.meaning f.set in
-    let E = setting m (g.M.Measure.meaning f.measure) f.sheet in
-    let R = rows_seen f.sheet in
-    let n = f.sheet.rows.count in
-    let F = build E R c.args.weight in
-    through_all F channel f.sheet.channels.value _ refl _ _ c.loop-channel.channel (omega (arith, c.get-channels.ensures)) c.loop-channel.invariant rest

@@ -68,9 +68,3 @@ returns g c =
     ∙ through_all F channel f.sheet.channels.value _ refl _ _ c.loop-channel.channel (omega (arith, c.get-channels.ensures)) c.loop-channel.invariant (up_from (block m.arity b.places.count) m.count 0)
     ∙ ap (λ v. F v (up_from channel f.sheet.channels.value 0 ++ up_from (block m.arity b.places.count) m.count 0)) c.beyond-best.ensures
     ∙ ap (F beyond) (ordered m (g.M.Measure.meaning f.measure) f.sheet b (g.met.S.OperatorSet.lawful f.set).narrow)
-
-pub lowered-best-requires : goal.lowered-best-requires
-lowered-best-requires g c = let f = c.args.self.now in c.last-last.ensures (g.S.OperatorSet.meaning f.set) f.sheet.rows.count
-
-pub lowered-best-requires-in-loop-second : goal.lowered-best-requires-in-loop-second
-lowered-best-requires-in-loop-second g c = let f = c.args.self.now in c.last-last.ensures (g.S.OperatorSet.meaning f.set) f.sheet.rows.count

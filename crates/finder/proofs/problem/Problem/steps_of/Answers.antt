@@ -12,12 +12,6 @@ use Rattle.finder.proofs.Listing.{none-listed, pushed_count, pushed_seen, marked
 use Rattle.finder.proofs.problem.Problem.steps_of.Goals as goal
 use Rattle.finder.proofs.problem.Problem.steps_of.Goals.{then-marks-i, else-marks-i}
 
-pub loop-i-init : goal.loop-i-init
-loop-i-init g c =
-    let m = g.S.OperatorSet.meaning c.args.self.now.set in
-    let z = none-listed c.empty-steps.result c.empty-steps.ensures in
-    (omega arith, ap (λ l. map (step_seen m) l ++ marked_steps c.marks_of-marks.result.used c.marks_of-marks.result.used (bank_seen m c.args.self.now.sheet.rows.count c.args.bank.now)) c.empty-steps.ensures)
-
 pub loop-i-preserved : goal.loop-i-preserved
 loop-i-preserved g c =
     let f = c.args.self.now in

@@ -13,9 +13,6 @@ use Rattle.finder.proofs.state.Finder.add.Goals as goal
 abbrev changed : Option (ℕ × ℕ) → State → Change
 changed o st = record { refusal = o; after = st }
 
-pub put_last-requires : goal.put_last-requires
-put_last-requires g c = c.in_ok-row.ensures.room
-
 pub returns : goal.returns
 returns g c =
     let f = c.args.self.now in

@@ -1,30 +1,18 @@
-ghost use Rattle.std.specs.Prelude.{[], ◌∷◌};
 ghost use Rattle.printing.specs.Formulas.{Formula, printed, Denotes, Puts, Prints};
 
-use crate::pieces::{Piece, both};
+use crate::pieces::Piece;
 use crate::sizes::{MOST, text_sizes};
 use refusals::firmware::FirmwareRefusal;
 
-// Writes one byte at `from`, where there is room, and answers the place behind it.
-fn put_byte(out: &mut [u8], from: usize, byte: u8) -> usize
-    ensures { Puts out.old out.new from result (byte ∷ []) }
+// Writes a text from `from` on, where there is room, and answers the place behind it.
+fn put_text(out: &mut [u8], from: usize, text: &[u8]) -> usize
+    ensures { Puts out.old out.new from result text.now }
 {
-    if from >= out.len() {
+    if from > out.len() || text.len() > out.len() - from {
         return from;
     }
-    out[from] = byte;
-    from + 1
-}
-
-// Writes a name from `from` on, where there is room, and answers the place behind it.
-fn put_name(out: &mut [u8], from: usize, name: &[u8]) -> usize
-    ensures { Puts out.old out.new from result name.now }
-{
-    if from > out.len() || name.len() > out.len() - from {
-        return from;
-    }
-    let to = from + name.len();
-    out[from..to].copy_from_slice(name);
+    let to = from + text.len();
+    out[from..to].copy_from_slice(text);
     to
 }
 
@@ -32,29 +20,28 @@ fn put_name(out: &mut [u8], from: usize, name: &[u8]) -> usize
 fn put(pieces: &[Piece], at: usize, out: &mut [u8], from: usize) -> usize
     ensures { (f : Formula) → Denotes pieces.now at f → Puts out.old out.new from result (printed f) }
 {
-    if at >= pieces.len() {
+    let Some(piece) = pieces.get(at) else {
         return from;
-    }
-    let Piece { label, arity, args } = pieces[at];
-    let named = put_name(out, from, label);
-    if arity == 0 {
+    };
+    let [first, second] = piece.args;
+    let named = put_text(out, from, piece.label);
+    if piece.arity == 0 {
         return named;
     }
-    let (first, second) = both(args);
-    let open = put_byte(out, named, b'(');
+    let open = put_text(out, named, b"(");
     if first >= at {
         return open;
     }
     let one = put(pieces, first, out, open);
-    if arity == 1 {
-        return put_byte(out, one, b')');
+    if piece.arity == 1 {
+        return put_text(out, one, b")");
     }
-    let comma = put_byte(out, one, b',');
+    let comma = put_text(out, one, b",");
     if second >= at {
         return comma;
     }
     let two = put(pieces, second, out, comma);
-    put_byte(out, two, b')')
+    put_text(out, two, b")")
 }
 
 // Writes the formula of the last step into the front of the buffer, and answers its length; the rest of the buffer
@@ -71,8 +58,8 @@ pub fn print(pieces: &[Piece], buffer: &mut [u8]) -> Result<usize, FirmwareRefus
     if count > MOST {
         return Err(FirmwareRefusal::Room);
     }
-    let sizes = text_sizes(pieces, buffer.len());
-    if sizes[count - 1] > buffer.len() {
+    let size = text_sizes(pieces)[count - 1].ok_or(FirmwareRefusal::Room)?;
+    if size > buffer.len() {
         return Err(FirmwareRefusal::Room);
     }
     Ok(put(pieces, count - 1, buffer, 0))

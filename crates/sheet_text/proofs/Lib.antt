@@ -1,5 +1,4 @@
 pub mod Pieces
-pub mod Cuts
 pub mod Decimals
 pub mod LineSteps
 pub mod NameForms

@@ -140,6 +140,7 @@ impl<'a> Parser<'a> {
     }
 
     // The rest of a row's line, where so many rows stand already.
+    #[tactic(auto, using(crate::proofs::Readings::says_row))]
     fn row_line(
         &mut self,
         head: Spot,

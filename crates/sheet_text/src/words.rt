@@ -62,6 +62,7 @@ impl<'a> Lexer<'a> {
     }
 
     // Takes the next word, or the end of the line or of the text.
+    #[tactic(auto, using(std::proofs::lemmas::List::take_rest))]
     pub fn next(&mut self) -> Word<'a>
         ensures { Lexed self.old self.new result }
     {

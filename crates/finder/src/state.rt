@@ -2,6 +2,7 @@ use crate::bank::{Bank, Candidate};
 use crate::problem::Problem;
 use measures::measure::Measure;
 use operators::set::OperatorSet;
+use std::fmt;
 
 // Whether the sheet is open, or as what it has settled: Found with what the formula is made of, its weight and its number of steps.
 #[derive(Clone, Copy)]
@@ -20,6 +21,17 @@ pub enum Answer {
     Found((u32, usize)),
     None,
     Full,
+}
+
+impl fmt::Display for Answer {
+    fn fmt<W: fmt::Write>(&self, f: &mut fmt::Formatter<W>) -> fmt::Result {
+        match *self {
+            Answer::Level(weight, places) => write!(f, "level {weight} {places}"),
+            Answer::Found((weight, steps)) => write!(f, "found {weight} steps {steps}"),
+            Answer::None => write!(f, "none"),
+            Answer::Full => write!(f, "full"),
+        }
+    }
 }
 
 // What an advance comes to. A settled sheet is not searched.

@@ -1,11 +1,12 @@
 -- The size of a step's text, by its arity.
 use Rattle.std.proofs.Common.{◌≡◌, ℕ, ◌+◌, ◌^◌, ◌<◌, ◌≤◌, ◌≢◌, cond, List, [], ◌∷◌, length, get_or, set, take, Some, None, Option, sym, refl, ap, ◌∙◌, subst, ⊎_elim, arith, length-append, length-take-le, below_more, ltb, lt-ltb, le-ltb}
 use Rattle.std.proofs.lemmas.List.{get_or-set_same, get_or-set_other, get_or-take, get_or_past}
+use Rattle.std.specs.List.{slice_get}
 use Rattle.std.proofs.lemmas.Bool.{cases_lt}
-use Rattle.std.proofs.lemmas.Option.{cond_some}
+use Rattle.std.proofs.lemmas.Option.{cond_some, slice_get_within, get_or_from_slice_get}
 use Rattle.printing.specs.declared.pieces.Piece.{Piece}
-use Rattle.printing.specs.Formulas.{Formula, over, nil, cons, printed, at, Denotes, counted, added, Sized, Sizes}
-use Rattle.printing.proofs.Standing.{as_leaf, as_one, as_two, as_some, never, falls_first, falls_second, from_leaf, from_one, from_two}
+use Rattle.printing.specs.Formulas.{Formula, over, nil, cons, printed, blank, at, Denotes, counted, added, Sized, Sizes}
+use Rattle.printing.proofs.Standing.{pair_of, as_leaf, as_one, as_two, as_some, never, falls_first, falls_second, from_leaf, from_one, from_two}
 
 fits : (n : ℕ) → n < 2 ^ 64 → counted n ≡ Some n
 fits n h = ap (λ b. cond b (Some n) None) (lt-ltb n (2 ^ 64) h)
@@ -121,3 +122,33 @@ sizes_more ps k r sizes inside before here =
     below_more (λ j. Sized ps j (get_or (set sizes k r) j None)) k
     (λ j h. let ne : j ≢ k = omega arith in subst (Sized ps j) (sym (get_or-set_other sizes k j r None ne)) (before j h))
     (subst (Sized ps k) (sym (get_or-set_same sizes k r None inside)) here)
+
+-- p is the step behind those of the sizes
+module _ (ps : List Piece) (p : Piece) (sizes : List (Option ℕ)) (here : slice_get ps (length sizes) ≡ Some p) where
+  inside : length sizes < length ps
+  inside = slice_get_within ps (length sizes) p here
+
+  is : p ≡ at ps (length sizes)
+  is = sym (get_or_from_slice_get ps (length sizes) p blank here)
+
+  pub step_leaf : p.arity ≡ 0 → length p.label.now < 2 ^ 64 → Sized ps (length sizes) (Some (length p.label.now))
+  step_leaf z small = sized_leaf ps (length sizes) p is inside z small
+
+  pub step_none : (r : Option ℕ) → Sizes ps (length sizes) sizes → length p.args ≡ 2 → (p.arity ≡ 0 → ⊥) → r ≡ get_or sizes (get_or p.args 0 0) None
+      → ◌≡◌ {A = Option ℕ} None (added (length p.label.now + 2) r) → Sized ps (length sizes) None
+  step_none r before both z e s = sized_none ps (length sizes) p is inside _ _ (pair_of p.args both) r z (argument ps _ r sizes before e) s
+
+  pub step_one : (r : Option ℕ) (one : ℕ) → Sizes ps (length sizes) sizes → length p.args ≡ 2 → p.arity ≡ 1 → r ≡ get_or sizes (get_or p.args 0 0) None
+      → ◌≡◌ {A = Option ℕ} (Some one) (added (length p.label.now + 2) r) → Sized ps (length sizes) (Some one)
+  step_one r one before both z e s = sized_one ps (length sizes) p is inside _ _ (pair_of p.args both) r one z (argument ps _ r sizes before e) s
+
+  pub step_two : (r q : Option ℕ) (one : ℕ) (size : Option ℕ) → Sizes ps (length sizes) sizes → length p.args ≡ 2 → p.arity ≡ 2
+      → r ≡ get_or sizes (get_or p.args 0 0) None → q ≡ get_or sizes (get_or p.args 1 0) None → ◌≡◌ {A = Option ℕ} (Some one) (added (length p.label.now + 2) r) → size ≡ added (one + 1) q
+      → Sized ps (length sizes) size
+  step_two r q one size before both z e f s t =
+      sized_two ps (length sizes) p is inside _ _ (pair_of p.args both) r q one size z (argument ps _ r sizes before e) (argument ps _ q sizes before f) s t
+
+  pub step_many : length p.args ≡ 2 → 2 < p.arity → Sized ps (length sizes) None
+  step_many both m = sized_many ps (length sizes) p is inside _ _ (pair_of p.args both) m
+
+pub ruleset step_sized = (step_leaf, step_none, step_one, step_two, step_many)

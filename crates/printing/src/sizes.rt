@@ -1,5 +1,6 @@
-ghost use Rattle.std.specs.Prelude.{◌≡◌, ◌+◌, ◌<◌, ◌≤◌, List, None, length, slice_index_or};
-ghost use Rattle.printing.specs.Formulas.{at, added, Sized, Sizes};
+ghost use Rattle.std.specs.Prelude.{◌≡◌, ◌+◌, ◌≤◌, List, Some, None, length, slice_index_or};
+ghost use Rattle.std.specs.List.{slice_get};
+ghost use Rattle.printing.specs.Formulas.{added, Sized, Sizes};
 ghost use Rattle.printing.specs.declared.pieces.Piece.{Piece};
 
 use crate::pieces::Piece;
@@ -22,8 +23,9 @@ fn with_argument(size: usize, more: usize, argument: Option<usize>) -> Option<us
 }
 
 // The length of the text of a step, from those of the steps before it.
+#[tactic(auto, using(crate::proofs::Sizing::step_sized))]
 fn step_size(piece: &Piece, before: &[Option<usize>]) -> Option<usize>
-    ensures { (ps : List Piece) → length before.now < length ps → piece.now ≡ at ps (length before.now) → Sizes ps (length before.now) before.now → Sized ps (length before.now) result }
+    ensures { (ps : List Piece) → slice_get ps (length before.now) ≡ Some piece.now → Sizes ps (length before.now) before.now → Sized ps (length before.now) result }
 {
     let [first, second] = piece.args;
     if piece.arity == 0 {

@@ -1,47 +1,61 @@
+ghost use Rattle.std.specs.Prelude.{◌≡◌, length};
 ghost use Rattle.printing.specs.Formulas.{Formula, printed, Denotes, Puts, Prints};
 
 use crate::pieces::Piece;
 use crate::sizes::{MOST, text_sizes};
 use refusals::firmware::FirmwareRefusal;
 
-// Writes a text from `from` on, where there is room, and answers the place behind it.
-fn put_text(out: &mut [u8], from: usize, text: &[u8]) -> usize
-    ensures { Puts out.old out.new from result text.now }
-{
-    if from > out.len() || text.len() > out.len() - from {
-        return from;
-    }
-    let to = from + text.len();
-    out[from..to].copy_from_slice(text);
-    to
+// The front of a buffer, written up to the byte `at`.
+#[derive(Drop)]
+struct Front<'a> {
+    out: &'a mut [u8],
+    at: usize,
 }
 
-// Writes the formula of the step `at` from `from` on, where there is room, and answers the place behind it.
-fn put(pieces: &[Piece], at: usize, out: &mut [u8], from: usize) -> usize
-    ensures { (f : Formula) → Denotes pieces.now at f → Puts out.old out.new from result (printed f) }
-{
-    let Some(piece) = pieces.get(at) else {
-        return from;
-    };
-    let [first, second] = piece.args;
-    let named = put_text(out, from, piece.label);
-    if piece.arity == 0 {
-        return named;
+impl<'a> Front<'a> {
+    // Writes a text behind what is written, where there is room.
+    fn put_text(&mut self, text: &[u8])
+        ensures put { Puts self.old.out.now self.new.out.now self.old.at self.new.at text.now }
+        ensures kept { length self.new.out.now ≡ length self.old.out.now }
+        ensures same_reference { self.new.out.ghost_name ≡ self.old.out.ghost_name }
+    {
+        if self.at > self.out.len() || text.len() > self.out.len() - self.at {
+            return;
+        }
+        let to = self.at + text.len();
+        self.out[self.at..to].copy_from_slice(text);
+        self.at = to;
     }
-    let open = put_text(out, named, b"(");
-    if first >= at {
-        return open;
+
+    // Writes the formula of a step behind what is written, where there is room.
+    fn put(&mut self, pieces: &[Piece], step: usize)
+        ensures put { (f : Formula) → Denotes pieces.now step f → Puts self.old.out.now self.new.out.now self.old.at self.new.at (printed f) }
+        ensures kept { length self.new.out.now ≡ length self.old.out.now }
+        ensures same_reference { self.new.out.ghost_name ≡ self.old.out.ghost_name }
+    {
+        let Some(piece) = pieces.get(step) else {
+            return;
+        };
+        let [first, second] = piece.args;
+        self.put_text(piece.label);
+        if piece.arity == 0 {
+            return;
+        }
+        self.put_text(b"(");
+        if first >= step {
+            return;
+        }
+        self.put(pieces, first);
+        if piece.arity == 1 {
+            return self.put_text(b")");
+        }
+        self.put_text(b",");
+        if second >= step {
+            return;
+        }
+        self.put(pieces, second);
+        self.put_text(b")");
     }
-    let one = put(pieces, first, out, open);
-    if piece.arity == 1 {
-        return put_text(out, one, b")");
-    }
-    let comma = put_text(out, one, b",");
-    if second >= at {
-        return comma;
-    }
-    let two = put(pieces, second, out, comma);
-    put_text(out, two, b")")
 }
 
 // Writes the formula of the last step into the front of the buffer, and answers its length; the rest of the buffer
@@ -62,5 +76,7 @@ pub fn print(pieces: &[Piece], buffer: &mut [u8]) -> Result<usize, FirmwareRefus
     if size > buffer.len() {
         return Err(FirmwareRefusal::Room);
     }
-    Ok(put(pieces, count - 1, buffer, 0))
+    let mut front = Front { out: buffer, at: 0 };
+    front.put(pieces, count - 1);
+    Ok(front.at)
 }

@@ -12,7 +12,7 @@ pub(crate) const MOST: usize = 513;
 fn argument_size(before: &[Option<usize>], argument: usize) -> Option<usize>
     ensures { result ≡ slice_index_or before.now argument None }
 {
-    before.get(argument).copied().unwrap_or(None)
+    before.get(argument).copied().flatten()
 }
 
 // A length with so many bytes and an argument's text behind it.
@@ -46,6 +46,7 @@ pub(crate) fn text_sizes(pieces: &[Piece]) -> [Option<usize>; MOST]
     ensures { Sizes pieces.now (length pieces.now) result }
 {
     let mut sizes = [None; MOST];
+    // by index, since each entry is worked out from those before it, in fixed memory
     for (at, piece) in pieces.iter().enumerate() {
         sizes[at] = step_size(piece, &sizes[..at]);
     }

@@ -77,6 +77,7 @@ impl<'a> Parser<'a> {
     }
 
     // Takes a line of two words, of which the first is due, and gives the second.
+    #[tactic(auto, using(crate::proofs::LineSteps::two_words))]
     fn two_words(&mut self, word: &[u8]) -> Result<Part<'a>, Fault>
         ensures { TwoWords word.now self.old.lexer self.new.lexer result }
     {
@@ -129,6 +130,7 @@ impl<'a> Parser<'a> {
     }
 
     // The bytes to the end of the line.
+    #[tactic(auto, using(crate::proofs::LineSteps::bytes_none, crate::proofs::LineSteps::bytes_more))]
     fn bytes(&mut self) -> Result<Vec<u8>, ParseError>
         ensures { Heard vec_items (Bytes self.old.lexer self.new.lexer) result }
     {

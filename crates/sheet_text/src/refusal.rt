@@ -21,6 +21,7 @@ pub enum TextRefusal {
     TooLong,
 }
 
+// Not a `Refusal`, since its place is a line and a word.
 impl TextRefusal {
     pub fn number(self) -> u8
         ensures { result ≡ text_refusal self }

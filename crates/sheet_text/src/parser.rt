@@ -106,9 +106,7 @@ impl<'a> Parser<'a> {
     {
         let head = self.due(b"channels")?;
         let names = self.names()?;
-        let channels = ChannelCount::new(names.len()).map_err(|refusal| Fault::sheet(
-            refusal, head,
-        ))?;
+        let channels = ChannelCount::new(names.len()).map_err(|e| Fault::sheet(e, head))?;
         Ok((names, channels))
     }
 
@@ -126,7 +124,7 @@ impl<'a> Parser<'a> {
     {
         let part = self.two_words(b"limit")?;
         let limit = number(part.bytes, 7).ok_or(part.malformed())?;
-        Limit::new(limit).map_err(|refusal| Fault::sheet(refusal, part.spot))
+        Limit::new(limit).map_err(|e| Fault::sheet(e, part.spot))
     }
 
     // The bytes to the end of the line.
@@ -155,7 +153,7 @@ impl<'a> Parser<'a> {
         if standing >= 16 {
             return Err(Fault::sheet(SheetRefusal::Rows, head).into());
         }
-        Row::read(&bytes, channels).map_err(|refusal| Fault::row(refusal, head))?;
+        Row::read(&bytes, channels).map_err(|e| Fault::row(e, head))?;
         Ok(bytes)
     }
 

@@ -27,7 +27,7 @@ impl<'a> Front<'a> {
         self.at = to;
     }
 
-    // Writes the formula of a step behind what is written, where there is room.
+    // Writes the formula of a step behind what is written, where there is room. An argument is an earlier step, so it ends.
     fn put(&mut self, pieces: &[Piece], step: usize)
         ensures put { (f : Formula) → Denotes pieces.now step f → Puts self.old.out.now self.new.out.now self.old.at self.new.at (printed f) }
         ensures kept { length self.new.out.now ≡ length self.old.out.now }

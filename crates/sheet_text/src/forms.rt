@@ -25,6 +25,7 @@ pub(crate) fn number(word: &[u8], most: usize) -> Option<u32>
     if word.is_empty() || word.len() > most {
         return None;
     }
+    // not `parse`, which takes a sign too
     let mut n = 0;
     for b in word {
         if !b.is_ascii_digit() {

@@ -2,6 +2,7 @@ use crate::bank::{Bank, Candidate};
 use crate::problem::Problem;
 use measures::measure::Measure;
 use operators::set::OperatorSet;
+use std::fmt;
 
 // The weight and the number of steps of the formula found.
 #[derive(Clone, Copy, PartialEq, Eq, Debug)]
@@ -27,6 +28,17 @@ pub enum Answer {
     Found(Found),
     None,
     Full,
+}
+
+impl fmt::Display for Answer {
+    fn fmt<W: fmt::Write>(&self, f: &mut fmt::Formatter<W>) -> fmt::Result {
+        match *self {
+            Answer::Level(weight, places) => write!(f, "level {weight} {places}"),
+            Answer::Found(Found { weight, steps }) => write!(f, "found {weight} steps {steps}"),
+            Answer::None => write!(f, "none"),
+            Answer::Full => write!(f, "full"),
+        }
+    }
 }
 
 // What an advance on an open sheet comes to.

@@ -1,104 +1,154 @@
 -- The size of a step's text, by its arity.
-use Rattle.std.proofs.Common.{◌≡◌, ℕ, ◌+◌, ◌<◌, ◌≤◌, ◌≢◌, List, [], ◌∷◌, length, get_or, set, sym, ap, subst, ⊎_elim, arith, length-append, below_more}
-use Rattle.std.proofs.lemmas.List.{get_or-set_same, get_or-set_other}
+use Rattle.std.proofs.Common.{◌≡◌, ℕ, ◌+◌, ◌^◌, ◌<◌, ◌≤◌, ◌≢◌, cond, List, [], ◌∷◌, length, get_or, set, take, Some, None, Option, sym, refl, ap, ◌∙◌, subst, ⊎_elim, arith, length-append, length-take-le, below_more, ltb, lt-ltb, le-ltb}
+use Rattle.std.proofs.lemmas.List.{get_or-set_same, get_or-set_other, get_or-take, get_or_past}
+use Rattle.std.specs.List.{slice_get}
 use Rattle.std.proofs.lemmas.Bool.{cases_lt}
+use Rattle.std.proofs.lemmas.Option.{cond_some, slice_get_within, get_or_from_slice_get}
 use Rattle.printing.specs.declared.pieces.Piece.{Piece}
-use Rattle.printing.specs.Formulas.{Formula, over, nil, cons, printed, at, Denotes, Sized, Sizes}
-use Rattle.printing.proofs.Standing.{as_leaf, as_one, as_two, never, falls_first, falls_second, from_leaf, from_one, from_two}
+use Rattle.printing.specs.Formulas.{Formula, over, nil, cons, printed, blank, at, Denotes, counted, added, Sized, Sizes}
+use Rattle.printing.proofs.Standing.{pair_of, as_leaf, as_one, as_two, as_some, never, falls_first, falls_second, from_leaf, from_one, from_two}
 
--- r is n up to the cap, and else past it too
-abbrev pub UpTo : ℕ → ℕ → ℕ → Type 0
-UpTo cap r n = (n ≤ cap → r ≡ n) × (cap < n → cap < r)
+fits : (n : ℕ) → n < 2 ^ 64 → counted n ≡ Some n
+fits n h = ap (λ b. cond b (Some n) None) (lt-ltb n (2 ^ 64) h)
 
-pub sized_leaf : (ps : List Piece) (cap k : ℕ) → k < length ps → (at ps k).arity ≡ 0 → Sized ps cap k (length (at ps k).label.now)
-sized_leaf ps cap k inside z = record {
-  exact = λ f d h. ap length (as_leaf ps k f d z);
-  longer = λ f d h. omega (arith, ap length (as_leaf ps k f d z));
-  stands = λ h. (over (at ps k).label.now nil, from_leaf ps k inside z);
-}
+pub past : (n : ℕ) → 2 ^ 64 ≤ n → counted n ≡ None
+past n h = ap (λ b. cond b (Some n) None) (le-ltb n (2 ^ 64) h)
 
--- the size r of an argument x of the step k: past the cap where it is no earlier step
-pub record Counted (ps : List Piece) (cap k x r : ℕ) : Type 0 where
-  pub earlier : x < k → Sized ps cap x r
-  pub later : k ≤ x → cap < r
+-- a length counted later is the whole length counted
+pub added-counted : (n m : ℕ) → added n (counted m) ≡ counted (n + m)
+added-counted n m =
+    ⊎_elim (λ h. ap (added n) (fits m h)) (λ h. ap (added n) (past m h) ∙ sym (past (n + m) (omega arith))) (cases_lt m (2 ^ 64))
 
--- what it says of the argument's text
-exactly : (ps : List Piece) (cap k x r : ℕ) → Counted ps cap k x r → x < k → (a : Formula) → Denotes ps x a → UpTo cap r (length (printed a))
-exactly ps cap k x r p below a d = (λ h. (p.earlier below).exact a d h, λ h. (p.earlier below).longer a d h)
+pub counted_some : (n m : ℕ) → ◌≡◌ {A = Option ℕ} (counted n) (Some m) → m ≡ n
+counted_some n m h = sym (cond_some (ltb n (2 ^ 64)) n m h).1
 
-under : (ps : List Piece) (cap k x r : ℕ) → Counted ps cap k x r → r ≤ cap → x < k
-under ps cap k x r p h = ⊎_elim (λ below. below) (λ above. absurd (omega (arith, p.later above))) (cases_lt x k)
+added_some : (n : ℕ) (r : Option ℕ) (s : ℕ) → ◌≡◌ {A = Option ℕ} (added n r) (Some s) → (m : ℕ) × (r ≡ Some m) × (s ≡ n + m)
+added_some n None s h = cc
+added_some n (Some m) s h = (m, refl, counted_some (n + m) s h)
 
-module _ (ps : List Piece) (cap k x y : ℕ) (two : (at ps k).args ≡ x ∷ (y ∷ [])) (inside : k < length ps) where
-  pub sized_one : (r size : ℕ) → (at ps k).arity ≡ 1 → Counted ps cap k x r → UpTo cap size (length (at ps k).label.now + 2 + r) → Sized ps cap k size
-  sized_one r size z p s =
-      let n = length (at ps k).label.now in
-      let some : (at ps k).arity ≡ 0 → ⊥ = λ e. omega arith in
-      let both : (f : Formula) → Denotes ps k f → UpTo cap size (length (printed f)) = λ f d.
-      let a = as_one ps k x y two f d z in
-      let e : n + (1 + (length (printed a.0) + 1)) ≡ length (printed f) = omega (arith, simp length-append at (ap length a.2)) in
-      let u = exactly ps cap k x r p (falls_first ps k x y two f d some) a.0 a.1 in (
-        λ h. omega (arith, u.0 (omega arith), s.0 (omega (arith, u.0 (omega arith)))),
-        λ h. ⊎_elim (λ much. s.1 (omega (arith, u.1 much))) (λ fits. s.1 (omega (arith, u.0 fits))) (cases_lt cap (length (printed a.0))),
-      ) in
-      record {
-        exact = λ f d h. (both f d).0 h;
-        longer = λ f d h. (both f d).1 h;
-        stands = λ h.
-            let fits : n + 2 + r ≤ cap = ⊎_elim (λ much. absurd (omega (arith, s.1 much))) (λ few. few) (cases_lt cap (n + 2 + r)) in
-            let below = under ps cap k x r p (omega arith) in
-            let a = (p.earlier below).stands (omega arith) in
-            (over (at ps k).label.now (cons a.0 nil), from_one ps k x y two a.0 inside z below a.1);
-      }
+-- the size r of an argument x of the step k: none where it is no earlier step
+pub record Argument (ps : List Piece) (k x : ℕ) (r : Option ℕ) : Type 0 where
+  pub earlier : x < k → Sized ps x r
+  pub later : k ≤ x → r ≡ None
 
-  pub sized_two : (r q size : ℕ) → (at ps k).arity ≡ 2 → Counted ps cap k x r → Counted ps cap k y q → UpTo cap size (length (at ps k).label.now + 3 + r + q) → Sized ps cap k size
-  sized_two r q size z p o s =
-      let n = length (at ps k).label.now in
-      let some : (at ps k).arity ≡ 0 → ⊥ = λ e. omega arith in
-      let more : (at ps k).arity ≡ 1 → ⊥ = λ e. omega arith in
-      let both : (f : Formula) → Denotes ps k f → UpTo cap size (length (printed f)) = λ f d.
-      let a = as_two ps k x y two f d some more in
-      let e : n + (1 + (length (printed a.0) + (1 + (length (printed a.1) + 1)))) ≡ length (printed f) = omega (arith, simp length-append at (ap length a.4)) in
-      let u = exactly ps cap k x r p (falls_first ps k x y two f d some) a.0 a.2 in
-      let v = exactly ps cap k y q o (falls_second ps k x y two f d some more) a.1 a.3 in (
-        λ h.
-            let r-is = u.0 (omega arith) in
-            let q-is = v.0 (omega arith) in
-            omega (arith, s.0 (omega arith)),
-        λ h.
-            ⊎_elim (λ much. s.1 (omega (arith, u.1 much)))
-            (λ fits. ⊎_elim (λ much. s.1 (omega (arith, v.1 much))) (λ few. s.1 (omega (arith, u.0 fits, v.0 few))) (cases_lt cap (length (printed a.1))))
-            (cases_lt cap (length (printed a.0))),
-      ) in
-      record {
-        exact = λ f d h. (both f d).0 h;
-        longer = λ f d h. (both f d).1 h;
-        stands = λ h.
-            let fits : n + 3 + r + q ≤ cap = ⊎_elim (λ much. absurd (omega (arith, s.1 much))) (λ few. few) (cases_lt cap (n + 3 + r + q)) in
-            let below = under ps cap k x r p (omega arith) in
-            let lower = under ps cap k y q o (omega arith) in
-            let a = (p.earlier below).stands (omega arith) in
-            let b = (o.earlier lower).stands (omega arith) in
-            (over (at ps k).label.now (cons a.0 (cons b.0 nil)), from_two ps k x y two a.0 b.0 inside z below lower a.1 b.1);
-      }
+under : (ps : List Piece) (k x : ℕ) (r : Option ℕ) → Argument ps k x r → (m : ℕ) → r ≡ Some m → x < k
+under ps k x r p m h = ⊎_elim (λ below. below) (λ above. let e : ◌≡◌ {A = Option ℕ} None (Some m) = sym (p.later above) ∙ h in cc) (cases_lt x k)
 
-  -- a step of more arguments than there are numbers for
-  pub sized_many : 2 < (at ps k).arity → Sized ps cap k (cap + 1)
-  sized_many m = record {
-    exact = λ f d h. absurd (never ps k x y two f d m);
-    longer = λ f d h. omega arith;
-    stands = λ h. absurd (omega arith);
+-- the step k of ps, p, with its two numbers
+module _ (ps : List Piece) (k : ℕ) (p : Piece) (is : p ≡ at ps k) (inside : k < length ps) where
+  pub sized_leaf : p.arity ≡ 0 → length p.label.now < 2 ^ 64 → Sized ps k (Some (length p.label.now))
+  sized_leaf z small = record {
+    exact = λ f d. sym (fits _ small) ∙ ap (λ l. counted (length l)) (as_leaf ps k p is f d z);
+    stands = λ n h. (over p.label.now nil, from_leaf ps k p is inside z);
   }
 
-pub counted : (ps : List Piece) (cap k x r : ℕ) (sizes : List ℕ) → Sizes ps cap k sizes → (x < k → r ≡ get_or sizes x 0) → (k ≤ x → cap < r) → Counted ps cap k x r
-counted ps cap k x r sizes before is past = record {
-  earlier = λ below. subst (Sized ps cap x) (sym (is below)) (before x below);
-  later = past;
+  module _ (x y : ℕ) (args : p.args ≡ x ∷ (y ∷ [])) where
+    -- what is counted of a name and its first argument
+    first_counted : (r : Option ℕ) → Argument ps k x r → x < k → (a : Formula) → Denotes ps x a → added (length p.label.now + 2) r ≡ counted (length p.label.now + 2 + length (printed a))
+    first_counted r h below a d = ap (added (length p.label.now + 2)) ((h.earlier below).exact a d) ∙ added-counted (length p.label.now + 2) (length (printed a))
+
+    pub sized_one : (r : Option ℕ) (one : ℕ) → p.arity ≡ 1 → Argument ps k x r → ◌≡◌ {A = Option ℕ} (Some one) (added (length p.label.now + 2) r) → Sized ps k (Some one)
+    sized_one r one z h s =
+        let n = length p.label.now in
+        let some : p.arity ≡ 0 → ⊥ = λ e. omega arith in
+        record {
+          exact = λ f d.
+              let a = as_one ps k p is x y args f d z in
+              let e : n + 2 + length (printed a.0) ≡ length (printed f) = omega (arith, simp length-append at (ap length a.2)) in
+              s ∙ first_counted r h (falls_first ps k p is x y args f d some) a.0 a.1 ∙ ap counted e;
+          stands = λ m g.
+              let q = added_some (n + 2) r one (sym s) in
+              let below = under ps k x r h q.0 q.1 in
+              let a = (h.earlier below).stands q.0 q.1 in
+              (over p.label.now (cons a.0 nil), from_one ps k p is x y args a.0 inside z below a.1);
+        }
+
+    pub sized_two : (r q : Option ℕ) (one : ℕ) (size : Option ℕ) → p.arity ≡ 2 → Argument ps k x r → Argument ps k y q → ◌≡◌ {A = Option ℕ} (Some one) (added (length p.label.now + 2) r) → size ≡ added (one + 1) q → Sized ps k size
+    sized_two r q one size z h o s t =
+        let n = length p.label.now in
+        let some : p.arity ≡ 0 → ⊥ = λ e. omega arith in
+        let more : p.arity ≡ 1 → ⊥ = λ e. omega arith in
+        record {
+          exact = λ f d.
+              let a = as_two ps k p is x y args f d some more in
+              let e : n + (1 + (length (printed a.0) + (1 + (length (printed a.1) + 1)))) ≡ length (printed f) = omega (arith, simp length-append at (ap length a.4)) in
+              let c = first_counted r h (falls_first ps k p is x y args f d some) a.0 a.2 in
+              let whole : one ≡ n + 2 + length (printed a.0) = counted_some _ one (sym (s ∙ c)) in
+              let all : one + 1 + length (printed a.1) ≡ length (printed f) = omega arith in
+              t ∙ ap (added (one + 1)) ((o.earlier (falls_second ps k p is x y args f d some more)).exact a.1 a.3) ∙ added-counted (one + 1) (length (printed a.1)) ∙ ap counted all;
+          stands = λ m g.
+              let u = added_some (n + 2) r one (sym s) in
+              let v = added_some (one + 1) q m (sym t ∙ g) in
+              let below = under ps k x r h u.0 u.1 in
+              let lower = under ps k y q o v.0 v.1 in
+              let a = (h.earlier below).stands u.0 u.1 in
+              let b = (o.earlier lower).stands v.0 v.1 in
+              (over p.label.now (cons a.0 (cons b.0 nil)), from_two ps k p is x y args a.0 b.0 inside z below lower a.1 b.1);
+        }
+
+    -- a step whose first argument is none or too long
+    pub sized_none : (r : Option ℕ) → (p.arity ≡ 0 → ⊥) → Argument ps k x r → ◌≡◌ {A = Option ℕ} None (added (length p.label.now + 2) r) → Sized ps k None
+    sized_none r z h s =
+        let n = length p.label.now in
+        record {
+          exact = λ f d.
+              let a = as_some ps k p is x y args f d z in
+              let c : counted (n + 2 + length (printed a.0)) ≡ None = sym (s ∙ first_counted r h (falls_first ps k p is x y args f d z) a.0 a.1) in
+              ⊎_elim
+              (λ few. let e : ◌≡◌ {A = Option ℕ} (Some (n + 2 + length (printed a.0))) None = sym (fits (n + 2 + length (printed a.0)) few) ∙ c in cc)
+              (λ many. sym (past (length (printed f)) (omega (arith, a.2)))) (cases_lt (n + 2 + length (printed a.0)) (2 ^ 64));
+          stands = λ m g. cc;
+        }
+
+    -- a step of more arguments than there are numbers for
+    pub sized_many : 2 < p.arity → Sized ps k None
+    sized_many m = record { exact = λ f d. absurd (never ps k p is x y args f d m); stands = λ n g. cc }
+
+pub argument : (ps : List Piece) (x : ℕ) (r : Option ℕ) (sizes : List (Option ℕ)) → Sizes ps (length sizes) sizes → r ≡ get_or sizes x None → Argument ps (length sizes) x r
+argument ps x r sizes before is = record {
+  earlier = λ below. subst (Sized ps x) (sym is) (before x below);
+  later = λ above. is ∙ get_or_past sizes x None above;
 }
 
+-- the first entries alone
+pub sizes_before : (ps : List Piece) (k : ℕ) (sizes : List (Option ℕ)) → k ≤ length sizes → Sizes ps k sizes → Sizes ps (length (take k sizes)) (take k sizes)
+sizes_before ps k sizes inside before j h =
+    let below : j < k = omega (arith, length-take-le k sizes inside) in
+    subst (Sized ps j) (sym (get_or-take k sizes j None below)) (before j below)
+
 -- one more entry
-pub sizes_more : (ps : List Piece) (cap k r : ℕ) (sizes : List ℕ) → k < length sizes → Sizes ps cap k sizes → Sized ps cap k r → Sizes ps cap (k + 1) (set sizes k r)
-sizes_more ps cap k r sizes inside before here =
-    below_more (λ j. Sized ps cap j (get_or (set sizes k r) j 0)) k
-    (λ j h. let ne : j ≢ k = omega arith in subst (Sized ps cap j) (sym (get_or-set_other sizes k j r 0 ne)) (before j h))
-    (subst (Sized ps cap k) (sym (get_or-set_same sizes k r 0 inside)) here)
+pub sizes_more : (ps : List Piece) (k : ℕ) (r : Option ℕ) (sizes : List (Option ℕ)) → k < length sizes → Sizes ps k sizes → Sized ps k r → Sizes ps (k + 1) (set sizes k r)
+sizes_more ps k r sizes inside before here =
+    below_more (λ j. Sized ps j (get_or (set sizes k r) j None)) k
+    (λ j h. let ne : j ≢ k = omega arith in subst (Sized ps j) (sym (get_or-set_other sizes k j r None ne)) (before j h))
+    (subst (Sized ps k) (sym (get_or-set_same sizes k r None inside)) here)
+
+-- p is the step behind those of the sizes
+module _ (ps : List Piece) (p : Piece) (sizes : List (Option ℕ)) (here : slice_get ps (length sizes) ≡ Some p) where
+  inside : length sizes < length ps
+  inside = slice_get_within ps (length sizes) p here
+
+  is : p ≡ at ps (length sizes)
+  is = sym (get_or_from_slice_get ps (length sizes) p blank here)
+
+  pub step_leaf : p.arity ≡ 0 → length p.label.now < 2 ^ 64 → Sized ps (length sizes) (Some (length p.label.now))
+  step_leaf z small = sized_leaf ps (length sizes) p is inside z small
+
+  pub step_none : (r : Option ℕ) → Sizes ps (length sizes) sizes → length p.args ≡ 2 → (p.arity ≡ 0 → ⊥) → r ≡ get_or sizes (get_or p.args 0 0) None
+      → ◌≡◌ {A = Option ℕ} None (added (length p.label.now + 2) r) → Sized ps (length sizes) None
+  step_none r before both z e s = sized_none ps (length sizes) p is inside _ _ (pair_of p.args both) r z (argument ps _ r sizes before e) s
+
+  pub step_one : (r : Option ℕ) (one : ℕ) → Sizes ps (length sizes) sizes → length p.args ≡ 2 → p.arity ≡ 1 → r ≡ get_or sizes (get_or p.args 0 0) None
+      → ◌≡◌ {A = Option ℕ} (Some one) (added (length p.label.now + 2) r) → Sized ps (length sizes) (Some one)
+  step_one r one before both z e s = sized_one ps (length sizes) p is inside _ _ (pair_of p.args both) r one z (argument ps _ r sizes before e) s
+
+  pub step_two : (r q : Option ℕ) (one : ℕ) (size : Option ℕ) → Sizes ps (length sizes) sizes → length p.args ≡ 2 → p.arity ≡ 2
+      → r ≡ get_or sizes (get_or p.args 0 0) None → q ≡ get_or sizes (get_or p.args 1 0) None → ◌≡◌ {A = Option ℕ} (Some one) (added (length p.label.now + 2) r) → size ≡ added (one + 1) q
+      → Sized ps (length sizes) size
+  step_two r q one size before both z e f s t =
+      sized_two ps (length sizes) p is inside _ _ (pair_of p.args both) r q one size z (argument ps _ r sizes before e) (argument ps _ q sizes before f) s t
+
+  pub step_many : length p.args ≡ 2 → 2 < p.arity → Sized ps (length sizes) None
+  step_many both m = sized_many ps (length sizes) p is inside _ _ (pair_of p.args both) m
+
+pub ruleset step_sized = (step_leaf, step_none, step_one, step_two, step_many)

@@ -1,5 +1,5 @@
 -- Formulas by their names, their texts, and the steps that stand for them.
-use Rattle.std.specs.Prelude.{◌≡◌, ℕ, suc, ◌+◌, ◌-◌, ◌<◌, ◌≤◌, ◌⊎◌, List, [], ◌∷◌, ◌++◌, length, take, drop, Ok, Err, Result, slice_index, slice_index_or}
+use Rattle.std.specs.Prelude.{◌≡◌, ℕ, suc, ◌+◌, ◌-◌, ◌^◌, ◌<◌, ◌≤◌, cond, ◌⊎◌, List, [], ◌∷◌, ◌++◌, length, take, drop, Some, None, Ok, Err, Option, Result, nat_lt, slice_index_or}
 use Rattle.refusals.specs.Numbers.{firmware_refusal}
 use Rattle.refusals.specs.declared.firmware.FirmwareRefusal.{FirmwareRefusal}
 use Rattle.printing.specs.declared.pieces.Piece.{Piece}
@@ -61,15 +61,22 @@ pub record Put (s t : List ℕ) (i r : ℕ) (text : List ℕ) : Type 0 where
 abbrev pub Puts : List ℕ → List ℕ → ℕ → ℕ → List ℕ → Type 0
 Puts s t i r text = i + length text ≤ length s → Put s t i r text
 
--- the size of the text of step k: exact up to the cap, and past it where the text is longer or the step stands for no formula
-pub record Sized (ps : List Piece) (cap k size : ℕ) : Type 0 where
-  pub exact : (f : Formula) → Denotes ps k f → length (printed f) ≤ cap → size ≡ length (printed f)
-  pub longer : (f : Formula) → Denotes ps k f → cap < length (printed f) → cap < size
-  pub stands : size ≤ cap → (f : Formula) × Denotes ps k f
+-- a length that is not too long to count
+abbrev pub counted : ℕ → Option ℕ
+counted n = cond (nat_lt n (2 ^ 64)) (Some n) None
+
+abbrev pub added : ℕ → Option ℕ → Option ℕ
+added n None = None
+added n (Some m) = counted (n + m)
+
+-- the size of the text of step k: exact, and none where the step stands for no formula or the text is too long to count
+pub record Sized (ps : List Piece) (k : ℕ) (size : Option ℕ) : Type 0 where
+  pub exact : (f : Formula) → Denotes ps k f → size ≡ counted (length (printed f))
+  pub stands : (n : ℕ) → size ≡ Some n → (f : Formula) × Denotes ps k f
 
 -- so for each of the first n steps
-abbrev pub Sizes : List Piece → ℕ → ℕ → List ℕ → Type 0
-Sizes ps cap n sizes = (k : ℕ) → k < n → Sized ps cap k (slice_index sizes k)
+abbrev pub Sizes : List Piece → ℕ → List (Option ℕ) → Type 0
+Sizes ps n sizes = (k : ℕ) → k < n → Sized ps k (slice_index_or sizes k None)
 
 -- the steps are at most as many as a formula has, and the last one stands for the formula
 pub record Last (ps : List Piece) (f : Formula) : Type 0 where

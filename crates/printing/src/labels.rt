@@ -8,22 +8,18 @@ use rows::span::Span;
 fn cut(bytes: &[u8], from: usize, size: usize) -> &[u8]
     ensures { result.now ≡ part bytes.now from size }
 {
-    if from <= bytes.len() && size <= bytes.len() - from {
-        &bytes[from..from + size]
-    } else {
-        &bytes[0..0]
-    }
+    bytes
+        .get(from..)
+        .and_then(|rest| rest.get(..size))
+        .unwrap_or(&[])
 }
 
 // The bytes without the spaces at their end.
 fn trimmed(bytes: &[u8]) -> &[u8]
     ensures { result.now ≡ trimmed_of bytes.now }
 {
-    let mut size = bytes.len();
-    while size > 0 && bytes[size - 1] == b' ' {
-        size -= 1;
-    }
-    &bytes[0..size]
+    let spaces = bytes.iter().rev().take_while(|b| **b == b' ').count();
+    &bytes[..bytes.len() - spaces]
 }
 
 // The name of a channel or an operator. An operator's is its four bytes of `names` without the spaces at their end,
@@ -32,14 +28,10 @@ pub fn label<'a>(text: &'a [u8], names: &'a [u8], spans: &[Span], top: Top) -> &
     ensures { result.now ≡ label_of text.now names.now spans.now top }
 {
     match top {
-        Top::Operator(number) => trimmed(cut(names, number as usize * 4, 4)),
-        Top::Channel(number) => {
-            let channel = number as usize;
-            if channel >= spans.len() {
-                return &text[0..0];
-            }
-            let Span { from, size } = spans[channel];
-            cut(text, from, size)
-        }
+        Top::Operator(number) => trimmed(cut(names, usize::from(number) * 4, 4)),
+        Top::Channel(number) => match spans.get(usize::from(number)) {
+            Some(span) => cut(text, span.from, span.size),
+            None => &[],
+        },
     }
 }

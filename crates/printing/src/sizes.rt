@@ -1,62 +1,54 @@
-ghost use Rattle.std.specs.Prelude.{◌≡◌, ◌^◌, ◌<◌, ◌≤◌, length, slice_index};
-ghost use Rattle.printing.specs.Formulas.{Sized, Sizes};
+ghost use Rattle.std.specs.Prelude.{◌≡◌, ◌+◌, ◌≤◌, List, Some, None, length, slice_index_or};
+ghost use Rattle.std.specs.List.{slice_get};
+ghost use Rattle.printing.specs.Formulas.{added, Sized, Sizes};
+ghost use Rattle.printing.specs.declared.pieces.Piece.{Piece};
 
-use crate::pieces::{Piece, both};
+use crate::pieces::Piece;
 
 // The most steps that a formula has.
 pub(crate) const MOST: usize = 513;
 
-// The length of the text of an argument of the step `at`, or more than `cap` where it is no earlier step.
-fn argument_size(sizes: &[usize], at: usize, argument: usize, cap: usize) -> usize
-    requires room { cap < 2 ^ 63 }
-    requires known { at ≤ length sizes.now }
-    ensures earlier { argument < at → result ≡ slice_index sizes.now argument }
-    ensures later { at ≤ argument → cap < result }
+// The length of the text of an argument, or none where it is no earlier step or has no length.
+fn argument_size(before: &[Option<usize>], argument: usize) -> Option<usize>
+    ensures { result ≡ slice_index_or before.now argument None }
 {
-    if argument < at {
-        sizes[argument]
-    } else {
-        cap + 1
+    before.get(argument).copied().flatten()
+}
+
+// A length with so many bytes and an argument's text behind it.
+fn with_argument(size: usize, more: usize, argument: Option<usize>) -> Option<usize>
+    ensures { result ≡ added (size + more) argument }
+{
+    size.checked_add(more)?.checked_add(argument?)
+}
+
+// The length of the text of a step, from those of the steps before it.
+#[tactic(auto, using(crate::proofs::Sizing::step_sized))]
+fn step_size(piece: &Piece, before: &[Option<usize>]) -> Option<usize>
+    ensures { (ps : List Piece) → slice_get ps (length before.now) ≡ Some piece.now → Sizes ps (length before.now) before.now → Sized ps (length before.now) result }
+{
+    let [first, second] = piece.args;
+    if piece.arity == 0 {
+        return Some(piece.label.len());
+    }
+    let one = with_argument(piece.label.len(), 2, argument_size(before, first))?;
+    match piece.arity {
+        1 => Some(one),
+        2 => with_argument(one, 1, argument_size(before, second)),
+        _ => None,
     }
 }
 
-// The length of the text of the step `at`, from those of the steps before it.
-fn step_size(pieces: &[Piece], at: usize, sizes: &[usize], cap: usize) -> usize
-    requires room { cap < 2 ^ 63 }
-    requires step { at < length pieces.now }
-    requires known { at ≤ length sizes.now }
-    requires before { Sizes pieces.now cap at sizes.now }
-    ensures { Sized pieces.now cap at result }
+// The lengths of the texts of all steps, each worked out once from those before it. A step that stands for no formula, or whose
+// text is too long to count, has none.
+pub(crate) fn text_sizes(pieces: &[Piece]) -> [Option<usize>; MOST]
+    requires { length pieces.now ≤ 513 }
+    ensures { Sizes pieces.now (length pieces.now) result }
 {
-    let Piece { label, arity, args } = pieces[at];
-    if arity == 0 {
-        return label.len();
-    }
-    let (first, second) = both(args);
-    let one = label
-        .len()
-        .saturating_add(2)
-        .saturating_add(argument_size(sizes, at, first, cap));
-    if arity == 1 {
-        return one;
-    }
-    if arity > 2 {
-        return cap + 1;
-    }
-    one.saturating_add(1)
-        .saturating_add(argument_size(sizes, at, second, cap))
-}
-
-// The lengths of the texts of all steps, each worked out once. The entry of a step whose text is longer than `cap`,
-// or that stands for no formula, is above `cap`.
-pub(crate) fn text_sizes(pieces: &[Piece], cap: usize) -> [usize; MOST]
-    requires room { cap < 2 ^ 63 }
-    requires few { length pieces.now ≤ 513 }
-    ensures { Sizes pieces.now cap (length pieces.now) result }
-{
-    let mut sizes = [0; MOST];
-    for at in 0..pieces.len() {
-        sizes[at] = step_size(pieces, at, &sizes, cap);
+    let mut sizes = [None; MOST];
+    // by index, since each entry is worked out from those before it, in fixed memory
+    for (at, piece) in pieces.iter().enumerate() {
+        sizes[at] = step_size(piece, &sizes[..at]);
     }
     sizes
 }

@@ -2,6 +2,7 @@ use crate::labels::label;
 use crate::pieces::Piece;
 use crate::writing::print;
 use formulas::steps::Top;
+use refusals::refusal::Refusal;
 use rows::span::Span;
 use std::test::Fail;
 

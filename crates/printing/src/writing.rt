@@ -1,60 +1,61 @@
-ghost use Rattle.std.specs.Prelude.{[], ◌∷◌};
+ghost use Rattle.std.specs.Prelude.{◌≡◌, length};
 ghost use Rattle.printing.specs.Formulas.{Formula, printed, Denotes, Puts, Prints};
 
-use crate::pieces::{Piece, both};
+use crate::pieces::Piece;
 use crate::sizes::{MOST, text_sizes};
 use refusals::firmware::FirmwareRefusal;
 
-// Writes one byte at `from`, where there is room, and answers the place behind it.
-fn put_byte(out: &mut [u8], from: usize, byte: u8) -> usize
-    ensures { Puts out.old out.new from result (byte ∷ []) }
-{
-    if from >= out.len() {
-        return from;
-    }
-    out[from] = byte;
-    from + 1
+// The front of a buffer, written up to the byte `at`.
+#[derive(Drop)]
+struct Front<'a> {
+    out: &'a mut [u8],
+    at: usize,
 }
 
-// Writes a name from `from` on, where there is room, and answers the place behind it.
-fn put_name(out: &mut [u8], from: usize, name: &[u8]) -> usize
-    ensures { Puts out.old out.new from result name.now }
-{
-    if from > out.len() || name.len() > out.len() - from {
-        return from;
+impl<'a> Front<'a> {
+    // Writes a text behind what is written, where there is room.
+    fn put_text(&mut self, text: &[u8])
+        ensures put { Puts self.old.out.now self.new.out.now self.old.at self.new.at text.now }
+        ensures kept { length self.new.out.now ≡ length self.old.out.now }
+        ensures same_reference { self.new.out.ghost_name ≡ self.old.out.ghost_name }
+    {
+        if self.at > self.out.len() || text.len() > self.out.len() - self.at {
+            return;
+        }
+        let to = self.at + text.len();
+        self.out[self.at..to].copy_from_slice(text);
+        self.at = to;
     }
-    let to = from + name.len();
-    out[from..to].copy_from_slice(name);
-    to
-}
 
-// Writes the formula of the step `at` from `from` on, where there is room, and answers the place behind it.
-fn put(pieces: &[Piece], at: usize, out: &mut [u8], from: usize) -> usize
-    ensures { (f : Formula) → Denotes pieces.now at f → Puts out.old out.new from result (printed f) }
-{
-    if at >= pieces.len() {
-        return from;
+    // Writes the formula of a step behind what is written, where there is room. An argument is an earlier step, so it ends.
+    fn put(&mut self, pieces: &[Piece], step: usize)
+        ensures put { (f : Formula) → Denotes pieces.now step f → Puts self.old.out.now self.new.out.now self.old.at self.new.at (printed f) }
+        ensures kept { length self.new.out.now ≡ length self.old.out.now }
+        ensures same_reference { self.new.out.ghost_name ≡ self.old.out.ghost_name }
+    {
+        let Some(piece) = pieces.get(step) else {
+            return;
+        };
+        let [first, second] = piece.args;
+        self.put_text(piece.label);
+        if piece.arity == 0 {
+            return;
+        }
+        self.put_text(b"(");
+        if first >= step {
+            return;
+        }
+        self.put(pieces, first);
+        if piece.arity == 1 {
+            return self.put_text(b")");
+        }
+        self.put_text(b",");
+        if second >= step {
+            return;
+        }
+        self.put(pieces, second);
+        self.put_text(b")");
     }
-    let Piece { label, arity, args } = pieces[at];
-    let named = put_name(out, from, label);
-    if arity == 0 {
-        return named;
-    }
-    let (first, second) = both(args);
-    let open = put_byte(out, named, b'(');
-    if first >= at {
-        return open;
-    }
-    let one = put(pieces, first, out, open);
-    if arity == 1 {
-        return put_byte(out, one, b')');
-    }
-    let comma = put_byte(out, one, b',');
-    if second >= at {
-        return comma;
-    }
-    let two = put(pieces, second, out, comma);
-    put_byte(out, two, b')')
 }
 
 // Writes the formula of the last step into the front of the buffer, and answers its length; the rest of the buffer
@@ -71,9 +72,11 @@ pub fn print(pieces: &[Piece], buffer: &mut [u8]) -> Result<usize, FirmwareRefus
     if count > MOST {
         return Err(FirmwareRefusal::Room);
     }
-    let sizes = text_sizes(pieces, buffer.len());
-    if sizes[count - 1] > buffer.len() {
+    let size = text_sizes(pieces)[count - 1].ok_or(FirmwareRefusal::Room)?;
+    if size > buffer.len() {
         return Err(FirmwareRefusal::Room);
     }
-    Ok(put(pieces, count - 1, buffer, 0))
+    let mut front = Front { out: buffer, at: 0 };
+    front.put(pieces, count - 1);
+    Ok(front.at)
 }

@@ -1,59 +1,28 @@
-use crate::formula::printed;
-use finder::state::{Answer, Finder};
+use crate::formula::Labels;
+use finder::state::Finder;
 use measures::charge::Charge;
 use measures::depth::Depth;
 use measures::measure::Measure;
 use operators::builtin::Builtin;
-use refusals::sheet::SheetRefusal;
 use sheet_text::parse::parse;
-use sheet_text::refusal::{Cause, Fault, ParseError};
+use sheet_text::refusal::ParseError;
 use sheet_text::sheet::{MeasureKind, SheetText};
 use std::alloc::{AllocError, Global};
 
 // A search settles within so many advances.
 const ADVANCES: usize = 513;
 
-// What the program prints for a sheet text.
+// What the program prints for a sheet text. A refused sheet prints one line only.
 pub(crate) fn answer_to(heap: Global, text: &[u8]) -> Result<Vec<u8>, AllocError> {
     match parse(heap, text) {
         Ok(sheet) => match sheet.measure {
             MeasureKind::Nodes => searched(heap, text, &sheet, Charge::nodes()),
             MeasureKind::Depth => searched(heap, text, &sheet, Depth),
         },
-        Err(ParseError::Refused(fault)) => refused(heap, fault),
+        Err(ParseError::Refused(fault)) => {
+            Vec::from_slice(heap, format!(in heap; "{fault}\n")?.as_bytes())
+        }
         Err(ParseError::Memory) => Err(AllocError),
-    }
-}
-
-// The layer that a refusal comes from.
-fn layer(cause: Cause) -> &'static str {
-    match cause {
-        Cause::Text(_) => "text",
-        Cause::Sheet(SheetRefusal::Length) => "row",
-        Cause::Sheet(SheetRefusal::Band(_)) => "row",
-        Cause::Sheet(SheetRefusal::Rows) => "finder",
-        Cause::Sheet(SheetRefusal::Limit) => "finder",
-        Cause::Sheet(SheetRefusal::Channels) => "finder",
-    }
-}
-
-// A refused sheet prints one line only.
-fn refused(heap: Global, fault: Fault) -> Result<Vec<u8>, AllocError> {
-    let layer = layer(fault.cause);
-    let number = fault.cause.number();
-    let line = fault.spot.line;
-    let word = fault.spot.word;
-    let text = format!(in heap; "refused {layer} {number} line {line} word {word}\n")?;
-    Vec::from_slice(heap, text.as_bytes())
-}
-
-// The line of one advance.
-fn advance_line(heap: Global, answer: Answer) -> Result<String, AllocError> {
-    match answer {
-        Answer::Level(weight, places) => format!(in heap; "level {weight} {places}\n"),
-        Answer::Found((weight, steps)) => format!(in heap; "found {weight} steps {steps}\n"),
-        Answer::None => format!(in heap; "none\n"),
-        Answer::Full => format!(in heap; "full\n"),
     }
 }
 
@@ -74,11 +43,11 @@ fn searched<M: Measure + Drop>(
         let Ok(answer) = finder.advance() else {
             break;
         };
-        out.extend_from_slice(advance_line(heap, answer)?.as_bytes())?;
+        out.extend_from_slice(format!(in heap; "{answer}\n")?.as_bytes())?;
     }
     if let Some(steps) = finder.formula() {
-        let formula = printed(heap, &Builtin, steps.as_slice(), text, &sheet.names)?;
-        out.extend_from_slice(&formula)?;
+        let labels = Labels::new(heap, &Builtin, text, &sheet.names)?;
+        out.extend_from_slice(&labels.printed(heap, steps.as_slice())?)?;
         out.push(b'\n')?;
     }
     Ok(out)

@@ -10,13 +10,56 @@ use std::alloc::{AllocError, Global};
 // A formula of more bytes is not printed.
 const LONGEST: usize = 4096;
 
-// The names of a set's operators, four bytes each, by number.
-fn operator_names<N: Named>(heap: Global, set: &N) -> Result<Vec<u8>, AllocError> {
-    let mut names = Vec::new(heap);
-    for op in 0..set.count() {
-        names.extend_from_slice(&set.name(op))?;
+// What the labels of a formula's steps are taken from: the set of operators with the names of all of them, four bytes each, by
+// number, and the sheet text with the spans of its channels' names.
+#[derive(Drop)]
+pub(crate) struct Labels<'a, N: Named> {
+    set: &'a N,
+    names: Vec<u8>,
+    text: &'a [u8],
+    spans: &'a [Span],
+}
+
+impl<'a, N: Named> Labels<'a, N> {
+    pub(crate) fn new(
+        heap: Global,
+        set: &'a N,
+        text: &'a [u8],
+        spans: &'a [Span],
+    ) -> Result<Labels<'a, N>, AllocError> {
+        let mut names = Vec::new(heap);
+        for op in 0..set.count() {
+            names.extend_from_slice(&set.name(op))?;
+        }
+        Ok(Labels {
+            set,
+            names,
+            text,
+            spans,
+        })
     }
-    Ok(names)
+
+    // A step with its label, ready to be printed.
+    fn piece(&self, step: &Step) -> Piece<'_> {
+        Piece {
+            label: label(self.text, &self.names, self.spans, step.top),
+            arity: arity_of(self.set, step.top),
+            args: step.args.map(usize::from),
+        }
+    }
+
+    // The printed formula of the steps, or `long` where it does not fit.
+    pub(crate) fn printed(&self, heap: Global, steps: &[Step]) -> Result<Vec<u8>, AllocError> {
+        let pieces: Vec<Piece> = steps.iter().map(|step| self.piece(step)).collect(heap)?;
+        let mut buffer = vec![in heap; 0u8; LONGEST]?;
+        match print(&pieces, &mut buffer) {
+            Ok(size) => {
+                buffer.truncate(size);
+                Ok(buffer)
+            }
+            Err(_) => Vec::from_slice(heap, b"long"),
+        }
+    }
 }
 
 fn arity_of<S: OperatorSet>(set: &S, top: Top) -> u8 {
@@ -24,57 +67,4 @@ fn arity_of<S: OperatorSet>(set: &S, top: Top) -> u8 {
         Top::Channel(_) => 0,
         Top::Operator(op) => set.arity(op),
     }
-}
-
-// The steps with their labels, ready to be printed.
-fn pieces_of<'a, S: OperatorSet>(
-    heap: Global,
-    set: &S,
-    steps: &[Step],
-    text: &'a [u8],
-    names: &'a [u8],
-    spans: &[Span],
-) -> Result<Vec<Piece<'a>>, AllocError> {
-    let mut pieces = Vec::new(heap);
-    for step in steps {
-        let args = [step.args[0] as usize, step.args[1] as usize];
-        pieces.push(Piece {
-            label: label(text, names, spans, step.top),
-            arity: arity_of(set, step.top),
-            args,
-        })?;
-    }
-    Ok(pieces)
-}
-
-// The printed formula of the steps, or `long` where it does not fit.
-fn labelled<'a, S: OperatorSet>(
-    heap: Global,
-    set: &S,
-    steps: &[Step],
-    text: &'a [u8],
-    names: &'a [u8],
-    spans: &[Span],
-) -> Result<Vec<u8>, AllocError> {
-    let pieces = pieces_of(heap, set, steps, text, names, spans)?;
-    let mut buffer = vec![in heap; 0u8; LONGEST]?;
-    match print(&pieces, &mut buffer) {
-        Ok(size) => {
-            buffer.truncate(size);
-            Ok(buffer)
-        }
-        Err(_) => Vec::from_slice(heap, b"long"),
-    }
-}
-
-// The same, with the labels of the set's operators and of the channels, whose names stand in the text.
-pub(crate) fn printed<N: Named>(
-    heap: Global,
-    set: &N,
-    steps: &[Step],
-    text: &[u8],
-    spans: &[Span],
-) -> Result<Vec<u8>, AllocError> {
-    let names = operator_names(heap, set)?;
-    labelled(heap, set, steps, text, &names, spans)
 }

@@ -1,8 +1,8 @@
 pub mod Pieces
-pub mod Cuts
 pub mod Decimals
 pub mod LineSteps
 pub mod NameForms
+pub mod Ordinary
 pub mod Readings
 pub mod Repeats
 pub mod RowsSaid

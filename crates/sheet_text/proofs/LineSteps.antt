@@ -1,6 +1,7 @@
-use Rattle.std.proofs.Common.{◌≡◌, ℕ, ◌<◌, ◌≤◌, Bool, true, false, cond, ltb, List, [], ◌∷◌, ◌++◌, map, length, IfOk, IfErr, Some, None, Ok, Err, vec_items, vec_len, codes, Option, Result, Vec, sym, refl, ap, ◌∙◌, subst, inl, inr, arith, ltb-true}
+use Rattle.std.proofs.Common.{◌≡◌, ℕ, ◌<◌, Bool, true, false, cond, ltb, List, [], ◌∷◌, ◌++◌, map, length, Some, None, Ok, Err, vec_items, vec_len, codes, Option, Result, Vec, ok_or, sym, refl, ap, ◌∙◌, subst, inl, inr, arith, ltb-true}
 use lib.ListN.{length-map}
 use Rattle.std.proofs.lemmas.List.{map-append}
+use Rattle.std.specs.Result.{MatchResult, IsErrAnd}
 use Rattle.std.specs.Str.{bytes_eq}
 use Rattle.std.specs.declared.alloc.Global.{Global}
 use Rattle.refusals.specs.Numbers.{sheet_refusal}
@@ -15,16 +16,15 @@ use Rattle.sheet_text.specs.declared.refusal.Fault.{Fault}
 use Rattle.sheet_text.specs.declared.refusal.ParseError.{ParseError}
 use Rattle.sheet_text.specs.declared.refusal.ParseError.TheVariants as error
 use Rattle.sheet_text.specs.declared.sheet.MeasureKind.{MeasureKind}
-use Rattle.sheet_text.specs.declared.sheet.SheetText.{SheetText}
 use Rattle.rows.specs.declared.span.Span.{Span}
 use Rattle.sheet_text.specs.Forms.{byte_of}
 use Rattle.sheet_text.specs.Lines as lines
 use Rattle.sheet_text.specs.Lines.{Due, SoleWord, TwoWords, Named, Names, BytesRead, span_of, ChannelsLine, MeasureLine, LimitLine, RowLine, RowsRead, RowLines}
-use Rattle.sheet_text.specs.Refusals.{Faulted, Heard, ordinary_error}
-use Rattle.sheet_text.specs.Sheets.{row_bytes, SheetRead, Sound, Parsed}
+use Rattle.sheet_text.specs.Refusals.{Faulted}
+use Rattle.sheet_text.specs.Sheets.{row_bytes, SheetRead}
 use Rattle.sheet_text.specs.Spans.{name_ok}
 use Rattle.sheet_text.specs.Steps.{IsFirstWord}
-use Rattle.sheet_text.specs.Texts.{Lexed, Fresh}
+use Rattle.sheet_text.specs.Texts.{Lexed}
 
 pub two_words : (due : List ℕ) (s t u : Lexer) (head : Spot) (r : Result Part Fault) → Due due s t (Ok head) → SoleWord head t u r → TwoWords due s u r
 two_words due s t u head (Ok p) d h = (t, head, d, h)
@@ -100,9 +100,12 @@ sheet_rows s t v w u names kind n channels (error.Refused f) k c m l h =
     inr (t, names, c, inr (v, kind, m, inr (w, n, l, subst P k h)))
 sheet_rows s t v w u names kind n channels error.Memory k c m l h = tt
 
--- a text that is not too long is read from its beginning
-pub parsed_from : (text : List ℕ) (s u : Lexer) (r : Result SheetText ParseError) → length text ≤ 4096 → Fresh text s → Heard (λ sheet. sheet) (SheetRead s u) r
-    → IfErr r (λ e. ordinary_error e ≡ true) → IfOk r (Sound s.text.now) → Parsed text r
-parsed_from text s u (Ok sheet) b f h o k = let P : List ℕ → Type 0 = λ bytes. Sound bytes sheet in (b, subst P f.0 k, (s, u, f, h))
-parsed_from text s u (Err (error.Refused g)) b f h o k = inr (b, o, (s, u, f, h))
-parsed_from text s u (Err error.Memory) b f h o k = b
+-- no answer, and what is said instead
+pub or_err : {A E : Type 0} (o : Option A) (e d : E) → ◌≡◌ {A = Result A E} (Err d) (ok_or o e) → (o ≡ None) × (d ≡ e)
+or_err None e d h = (refl, cc)
+or_err (Some x) e d h = cc
+
+-- a refusal that was given a place
+pub mapped_err : {T E D : Type 0} (Q : E → D → Type 0) (r : Result T E) (m : Result T D) (d : D) → MatchResult r (λ x. m ≡ Ok x) (λ e. IsErrAnd m (Q e)) → m ≡ Err d → (e : E) × (r ≡ Err e) × Q e d
+mapped_err Q (Ok x) m d h k = cc
+mapped_err Q (Err e) m d h k = (e, refl, subst (λ n. IsErrAnd n (Q e)) k h)

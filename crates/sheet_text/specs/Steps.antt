@@ -1,5 +1,5 @@
 -- How a text is read, word by word and line by line.
-use Rattle.std.specs.Prelude.{◌≡◌, ◌<◌, ◌≤◌, ◌⊎◌, Some, None, Option}
+use Rattle.std.specs.Prelude.{◌⊎◌, Some, None, Option}
 use Rattle.sheet_text.specs.declared.lexer.Lexer.{Lexer}
 use Rattle.sheet_text.specs.declared.lexer.Part.{Part}
 use Rattle.sheet_text.specs.declared.lexer.Word.TheVariants as word
@@ -19,12 +19,3 @@ pub data Passed (s : Lexer) : Lexer → Type 0 where
 abbrev pub IsFirstWord : Lexer → Lexer → Option Part → Type 0
 IsFirstWord s u (Some p) = (t : Lexer) × Passed s t × Lexed t u (word.Part p)
 IsFirstWord s u None = (t : Lexer) × Passed s t × Lexed t u word.End
-
--- the same text, read further
-abbrev pub Onward : Lexer → Lexer → Type 0
-Onward s t = (t.text ≡ s.text) × (s.at ≤ t.at)
-
--- read further by a word, if one came
-abbrev pub Further : Lexer → Lexer → Option Part → Type 0
-Further s t (Some p) = s.at < t.at
-Further s t None = Unit {0}

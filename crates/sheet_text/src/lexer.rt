@@ -25,6 +25,7 @@ pub enum Word<'a> {
 
 // A text of at most 4,096 bytes that has been read up to the byte `at`: so many lines are ended, so many words stand before in the line that is read, and
 // `last` is the line of the last word, or 0 before the first.
+// The counts are of what is behind, from 0: the place due as a `Spot`, or `last` as an option, would each need a correction by one.
 #[derive(Drop)]
 pub struct Lexer<'a> {
     pub(crate) text: &'a [u8],

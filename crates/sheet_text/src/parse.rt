@@ -14,10 +14,8 @@ pub fn parse(heap: Global, text: &[u8]) -> Result<SheetText, ParseError>
     ensures reads { Reads text.now result }
 {
     if text.len() > 4096 {
-        return Err(ParseError::Refused(Fault::text(
-            TextRefusal::TooLong,
-            Spot { line: 1, word: 1 },
-        )));
+        let start = Spot { line: 1, word: 1 };
+        return Err(Fault::text(TextRefusal::TooLong, start).into());
     }
     let mut parser = Parser {
         lexer: Lexer::new(text),

@@ -1,12 +1,14 @@
-ghost use Rattle.std.specs.Prelude.{◌≡◌, ℕ, ◌+◌, ◌^◌, ◌<◌};
+ghost use Rattle.std.specs.Prelude.{◌≡◌, ℕ, ◌+◌, ◌^◌, ◌<◌, Some};
 ghost use Rattle.refusals.specs.Numbers.{sheet_refusal};
 ghost use Rattle.sheet_text.specs.Refusals.{text_refusal, fault_number, text_fault, sheet_fault, row_fault};
-ghost use Rattle.sheet_text.specs.Layers.{cause_layer, layer_seen};
+ghost use Rattle.sheet_text.specs.Layers.{cause_layer, layer_seen, layer_text, fault_text};
 ghost use Rattle.sheet_text.specs.declared.refusal.ParseError.TheVariants.{Refused as Faulty, Memory};
 
 use crate::lexer::Spot;
+use refusals::refusal::Refusal;
 use refusals::sheet::SheetRefusal;
 use std::alloc::{AllocError, AllocFailed};
+use std::fmt;
 
 // What a sheet text is refused for as a text.
 #[derive(Clone, Copy, PartialEq, Eq, Debug)]
@@ -19,6 +21,7 @@ pub enum TextRefusal {
     TooLong,
 }
 
+// Not a `Refusal`, since its place is a line and a word.
 impl TextRefusal {
     pub fn number(self) -> u8
         ensures { result ≡ text_refusal self }
@@ -46,17 +49,28 @@ pub enum Layer {
     Finder,
 }
 
+impl fmt::Display for Layer {
+    ghost output = { λ l. Some (layer_text (layer_seen l)) };
+
+    fn fmt<W: fmt::Write>(&self, f: &mut fmt::Formatter<W>) -> fmt::Result {
+        f.write_str(match self {
+            Layer::Text => "text",
+            Layer::Row => "row",
+            Layer::Finder => "finder",
+        })
+    }
+}
+
 impl Cause {
     pub fn layer(self) -> Layer
         ensures { layer_seen result ≡ cause_layer self }
     {
         match self {
             Cause::Text(_) => Layer::Text,
-            Cause::Sheet(SheetRefusal::Length) => Layer::Row,
-            Cause::Sheet(SheetRefusal::Band(_)) => Layer::Row,
-            Cause::Sheet(SheetRefusal::Rows) => Layer::Finder,
-            Cause::Sheet(SheetRefusal::Limit) => Layer::Finder,
-            Cause::Sheet(SheetRefusal::Channels) => Layer::Finder,
+            Cause::Sheet(SheetRefusal::Length | SheetRefusal::Band(_)) => Layer::Row,
+            Cause::Sheet(SheetRefusal::Rows | SheetRefusal::Limit | SheetRefusal::Channels) => {
+                Layer::Finder
+            }
         }
     }
 
@@ -101,20 +115,29 @@ impl Fault {
         requires { (sheet_refusal refusal).1 + 2 < 2 ^ 64 }
         ensures { result ≡ row_fault refusal head }
     {
-        let word = match refusal {
-            SheetRefusal::Band(place) => place + 2,
+        let spot = match refusal {
+            SheetRefusal::Band(place) => Spot {
+                word: place + 2,
+                ..head
+            },
             SheetRefusal::Length
             | SheetRefusal::Rows
             | SheetRefusal::Limit
-            | SheetRefusal::Channels => head.word,
+            | SheetRefusal::Channels => head,
         };
-        Fault::sheet(
-            refusal,
-            Spot {
-                line: head.line,
-                word,
-            },
-        )
+        Fault::sheet(refusal, spot)
+    }
+}
+
+// What is said of a text that is refused.
+impl fmt::Display for Fault {
+    ghost output = { λ f. Some (fault_text f) };
+
+    fn fmt<W: fmt::Write>(&self, f: &mut fmt::Formatter<W>) -> fmt::Result {
+        let layer = self.cause.layer();
+        let number = self.cause.number();
+        let Spot { line, word } = self.spot;
+        write!(f, "refused {layer} {number} line {line} word {word}")
     }
 }
 

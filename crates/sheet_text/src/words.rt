@@ -1,20 +1,20 @@
-ghost use Rattle.std.specs.Prelude.{◌≡◌, ℕ, ◌≤◌, length};
+ghost use Rattle.std.specs.Prelude.{◌≡◌, ◌≤◌, length};
 ghost use Rattle.std.specs.List.{prefix_len};
+ghost use Rattle.sheet_text.specs.Lines.{span_of};
+ghost use Rattle.sheet_text.specs.Refusals.{text_fault};
 ghost use Rattle.sheet_text.specs.Texts.{blank, in_word, Lexed, Fresh};
+ghost use Rattle.sheet_text.specs.declared.refusal.TextRefusal.TheVariants.{Word as Malformed};
 
 use crate::lexer::{Lexer, Part, Spot, Word};
+use crate::refusal::{Fault, TextRefusal};
+use rows::span::Span;
 
 // How many spaces the text begins with.
 fn spaces(text: &[u8]) -> usize
     ensures value { result ≡ prefix_len blank text.now }
     ensures within { result ≤ length text.now }
 {
-    for (i, b) in text.iter().enumerate() {
-        if *b != b' ' {
-            return i;
-        }
-    }
-    text.len()
+    text.iter().take_while(|b| **b == b' ').count()
 }
 
 // How many bytes of a word the text begins with.
@@ -22,12 +22,28 @@ fn letters(text: &[u8]) -> usize
     ensures value { result ≡ prefix_len in_word text.now }
     ensures within { result ≤ length text.now }
 {
-    for (i, b) in text.iter().enumerate() {
-        if *b == b' ' || *b == b'\n' {
-            return i;
+    text.iter()
+        .take_while(|b| **b != b' ' && **b != b'\n')
+        .count()
+}
+
+impl<'a> Part<'a> {
+    // Where the word stands in the text.
+    pub(crate) fn span(&self) -> Span
+        ensures { result ≡ span_of self.now }
+    {
+        Span {
+            from: self.from,
+            size: self.bytes.len(),
         }
     }
-    text.len()
+
+    // The fault of a word that is malformed or repeated.
+    pub(crate) fn malformed(&self) -> Fault
+        ensures { result ≡ text_fault Malformed self.now.spot }
+    {
+        Fault::text(TextRefusal::Word, self.spot)
+    }
 }
 
 impl<'a> Lexer<'a> {
@@ -46,6 +62,7 @@ impl<'a> Lexer<'a> {
     }
 
     // Takes the next word, or the end of the line or of the text.
+    #[tactic(auto, using(std::proofs::lemmas::List::take_rest))]
     pub fn next(&mut self) -> Word<'a>
         ensures { Lexed self.old self.new result }
     {

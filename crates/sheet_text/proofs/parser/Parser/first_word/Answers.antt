@@ -1,15 +1,14 @@
-use Rattle.std.proofs.Common.{rules}
 use Rattle.sheet_text.specs.Steps.{start, more}
 use Rattle.sheet_text.proofs.parser.Parser.first_word.Goals as goal
 
 pub loop-part-init : goal.loop-part-init
-loop-part-init c = (search rules, start)
+loop-part-init c = start
 
 pub loop-part-preserved : goal.loop-part-preserved
-loop-part-preserved c = (search rules, more _ _ c.loop-part.invariant.1 c.in-LineEnd.ensures)
+loop-part-preserved c = more _ _ c.loop-part.invariant c.in-LineEnd.ensures
 
 pub returns-in-Part : goal.returns-in-Part
-returns-in-Part c = record { word = (c.loop-part.self.lexer, c.loop-part.invariant.1, c.in-Part.ensures); onward = search rules; further = search rules }
+returns-in-Part c = (c.loop-part.self.lexer, c.loop-part.invariant, c.in-Part.ensures)
 
 pub returns-in-End : goal.returns-in-End
-returns-in-End c = record { word = (c.loop-part.self.lexer, c.loop-part.invariant.1, c.in-End.ensures); onward = search rules; further = tt }
+returns-in-End c = (c.loop-part.self.lexer, c.loop-part.invariant, c.in-End.ensures)

@@ -1,8 +1,14 @@
-use Rattle.std.proofs.Common.{inr, rules}
+use Rattle.std.proofs.Common.{Some, subst, inr}
+use Rattle.sheet_text.specs.Steps.{InLine}
 use Rattle.sheet_text.proofs.parser.Parser.sole_word.Goals as goal
+use Rattle.sheet_text.proofs.parser.Parser.sole_word.Goals.{In_ok-part}
 
-pub returns : goal.returns
-returns c = record { sole = (c.word_in_line.new.self.lexer, c.in-Some.ensures.word, c.in_default-word_in_line.ensures.word); onward = search rules; ordinary = search rules }
+taken : (c : In_ok-part) → InLine c.args.self.now.lexer c.word_in_line.new.self.lexer (Some c.in_ok-part.part)
+taken c = subst (InLine c.args.self.now.lexer c.word_in_line.new.self.lexer) c.in_ok-part.ensures.ok_part c.word_in_line.ensures
 
-pub returns-in-Some-word_in_line : goal.returns-in-Some-word_in_line
-returns-in-Some-word_in_line c = record { sole = (c.text-in-Some-word_in_line.ensures, inr (c.word_in_line.new.self.lexer, c.in-Some.part, c.in-Some-word_in_line._extra, c.in-Some.ensures.word, c.in-Some-word_in_line.ensures.word)); onward = search rules; ordinary = search rules }
+pub returns-in-Some : goal.returns-in-Some
+returns-in-Some c =
+    (c.text-fault.ensures, inr (c.word_in_line.new.self.lexer, c.in_ok-part.part, c.in-Some.field-0, taken (goal.at.returns-in-Some c).In_ok-part, c.in-Some.ensures))
+
+pub returns-in-None : goal.returns-in-None
+returns-in-None c = (c.word_in_line.new.self.lexer, taken (goal.at.returns-in-None c).In_ok-part, c.in-None.ensures)

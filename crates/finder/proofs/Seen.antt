@@ -4,7 +4,7 @@ use native.Mathlib.Decide.{dec_lt}
 use Rattle.std.specs.List.{AllWithin, HoldsAt}
 use Rattle.fixed.specs.Listed.{listed}
 use Rattle.fixed.proofs.Lengths.{listed-length}
-use Rattle.std.proofs.lemmas.List.{get_or-map, get_or-take, get_or_past, length-map, length-take, length-take-le, take_more_set, map_push, take_all, take_more_same, ext_get_or}
+use Rattle.std.proofs.lemmas.List.{get_or-map, get_or-take, get_or_past, length-map, length-take, length-take-le, take_more_set, map_push, ext_get_or}
 use Rattle.operators.specs.Bands.{SetMeaning}
 use Rattle.measures.specs.Values.{values}
 use Rattle.measures.specs.declared.weight.Weight.{Weight}

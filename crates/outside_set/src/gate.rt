@@ -2,8 +2,8 @@ ghost use Rattle.std.specs.Prelude.{◌≡◌, ℕ, List};
 ghost use Rattle.outside_set.specs.Gate.{gate_of, gate_set, gate_names};
 ghost use Rattle.outside_set.specs.Laws.{gate_laws, gate_spelt};
 
-use operators::named::Named;
-use operators::set::{MARK, OperatorSet, arg};
+use operators::named::{NO_NAME, Named};
+use operators::set::{MARK, OperatorSet, arg, both};
 
 // A set of one operator, gate: it lets its second argument through where its first is not 0.
 #[derive(Clone, Copy)]
@@ -13,10 +13,7 @@ pub struct Gate;
 fn gate_band(a: u8, b: u8) -> u8
     ensures { result ≡ gate_of a b }
 {
-    if a >= MARK || b >= MARK {
-        return MARK;
-    }
-    if a >= 1 { b } else { 0 }
+    both(a, b, |a, b| if a >= 1 { b } else { 0 })
 }
 
 impl OperatorSet for Gate {
@@ -51,7 +48,7 @@ impl Named for Gate {
     fn name(&self, op: u8) -> [u8; 4] {
         match op {
             0 => *b"gate",
-            _ => *b"    ",
+            _ => NO_NAME,
         }
     }
 }

@@ -1,8 +1,9 @@
 -- Formulas by their names, their texts, and the steps that stand for them.
-use Rattle.std.specs.Prelude.{◌≡◌, ℕ, suc, ◌+◌, ◌-◌, ◌^◌, ◌<◌, ◌≤◌, cond, ◌⊎◌, List, [], ◌∷◌, ◌++◌, length, take, drop, Some, None, Ok, Err, Option, Result, nat_lt, slice_index_or}
+use Rattle.std.specs.Prelude.{◌≡◌, ℕ, suc, ◌+◌, ◌-◌, ◌^◌, ◌<◌, ◌≤◌, cond, ◌⊎◌, List, [], ◌∷◌, ◌++◌, length, take, Some, None, Ok, Err, Option, Result, nat_lt, slice_index_or}
 use Rattle.refusals.specs.Numbers.{firmware_refusal}
 use Rattle.refusals.specs.declared.firmware.FirmwareRefusal.{FirmwareRefusal}
 use Rattle.printing.specs.declared.pieces.Piece.{Piece}
+use Rattle.lent.specs.Puts.{Put}
 
 -- a name over its arguments; over none, it is a channel or an operator of arity 0
 mutual
@@ -50,16 +51,6 @@ abbrev mutual
   Arguments ps k [] (cons f fs) = ⊥
   Arguments ps k (j ∷ js) nil = ⊥
   Arguments ps k (j ∷ js) (cons f fs) = (j < k) × Denotes ps j f × Arguments ps k js fs
-
--- t is s with the text written from i on, and r is the place behind it
-pub record Put (s t : List ℕ) (i r : ℕ) (text : List ℕ) : Type 0 where
-  pub behind : r ≡ i + length text
-  pub front : take r t ≡ take i s ++ text
-  pub rest : drop r t ≡ drop r s
-
--- the same, where there is room
-abbrev pub Puts : List ℕ → List ℕ → ℕ → ℕ → List ℕ → Type 0
-Puts s t i r text = i + length text ≤ length s → Put s t i r text
 
 -- a length that is not too long to count
 abbrev pub counted : ℕ → Option ℕ

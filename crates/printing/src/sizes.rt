@@ -4,9 +4,7 @@ ghost use Rattle.printing.specs.Formulas.{added, Sized, Sizes};
 ghost use Rattle.printing.specs.declared.pieces.Piece.{Piece};
 
 use crate::pieces::Piece;
-
-// The most steps that a formula has.
-pub(crate) const MOST: usize = 513;
+use formulas::steps::MOST_STEPS;
 
 // The length of the text of an argument, or none where it is no earlier step or has no length.
 fn argument_size(before: &[Option<usize>], argument: usize) -> Option<usize>
@@ -41,11 +39,11 @@ fn step_size(piece: &Piece, before: &[Option<usize>]) -> Option<usize>
 
 // The lengths of the texts of all steps, each worked out once from those before it. A step that stands for no formula, or whose
 // text is too long to count, has none.
-pub(crate) fn text_sizes(pieces: &[Piece]) -> [Option<usize>; MOST]
+pub(crate) fn text_sizes(pieces: &[Piece]) -> [Option<usize>; MOST_STEPS]
     requires { length pieces.now ≤ 513 }
     ensures { Sizes pieces.now (length pieces.now) result }
 {
-    let mut sizes = [None; MOST];
+    let mut sizes = [None; MOST_STEPS];
     // by index, since each entry is worked out from those before it, in fixed memory
     for (at, piece) in pieces.iter().enumerate() {
         sizes[at] = step_size(piece, &sizes[..at]);

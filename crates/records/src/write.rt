@@ -1,14 +1,14 @@
-ghost use Rattle.std.specs.Prelude.{◌≡◌, map, OnOk};
+ghost use Rattle.std.specs.Prelude.{◌≡◌, ◌≤◌, length, map, OnOk};
 ghost use Rattle.std.specs.List.{flat_map};
-ghost use Rattle.formulas.specs.Steps.{listed};
+ghost use Rattle.formulas.specs.Steps.{listed, most_steps};
 ghost use Rattle.records.specs.Bytes.{two_bytes, step_code, field_of, record_of};
-ghost use Rattle.lent.specs.Puts.{Puts};
+ghost use Rattle.lent.specs.Puts.{Behind};
 ghost use Rattle.records.specs.Writing.{Written, ReadsBack};
 
 use crate::code::Code;
 use crate::size::record_size;
 use formulas::steps::{Step, Steps};
-use lent::put::put;
+use lent::front::Front;
 use refusals::firmware::FirmwareRefusal;
 
 // A number in two bytes, high byte first.
@@ -19,35 +19,41 @@ fn two_bytes(number: u16) -> [u8; 2]
 }
 
 // Writes the codes of the steps.
-fn put_codes(out: &mut [u8], from: usize, steps: &[Step]) -> usize
-    ensures { Puts out.old out.new from result (map step_code steps.now) }
+fn put_codes(front: &mut Front<'_>, steps: &[Step])
+    ensures { Behind front.old front.new (map step_code steps.now) }
 {
-    let mut at = from;
     for step in steps {
         let code = Code::from(step.top);
-        at = put(out, at, &[code.0]);
+        front.put(&[code.0]);
     }
-    at
 }
 
 // Writes the arguments of a step.
-fn put_field(out: &mut [u8], from: usize, step: Step) -> usize
-    ensures { Puts out.old out.new from result (field_of step) }
+fn put_field(front: &mut Front<'_>, step: Step)
+    ensures { Behind front.old front.new (field_of step) }
 {
     let [first, second] = step.args;
-    let next = put(out, from, &two_bytes(first));
-    put(out, next, &two_bytes(second))
+    front.put(&two_bytes(first));
+    front.put(&two_bytes(second));
 }
 
 // Writes the arguments of the steps.
-fn put_fields(out: &mut [u8], from: usize, steps: &[Step]) -> usize
-    ensures { Puts out.old out.new from result (flat_map field_of steps.now) }
+fn put_fields(front: &mut Front<'_>, steps: &[Step])
+    ensures { Behind front.old front.new (flat_map field_of steps.now) }
 {
-    let mut at = from;
     for step in steps {
-        at = put_field(out, at, *step);
+        put_field(front, *step);
     }
-    at
+}
+
+// Writes the record of the steps.
+fn put_record(front: &mut Front<'_>, steps: &[Step])
+    requires { length steps.now ≤ most_steps }
+    ensures { Behind front.old front.new (record_of steps.now) }
+{
+    front.put(&two_bytes(steps.len() as u16));
+    put_codes(front, steps);
+    put_fields(front, steps);
 }
 
 // Writes the record of the steps into the front of the buffer, and answers its length; the rest of the buffer stays.
@@ -60,7 +66,7 @@ pub fn write_record(steps: &Steps, buffer: &mut [u8]) -> Result<usize, FirmwareR
     if buffer.len() < record_size(list.len()) {
         return Err(FirmwareRefusal::Room);
     }
-    let codes = put(buffer, 0, &two_bytes(list.len() as u16));
-    let fields = put_codes(buffer, codes, list);
-    Ok(put_fields(buffer, fields, list))
+    let mut front = Front { out: buffer, at: 0 };
+    put_record(&mut front, list);
+    Ok(front.at)
 }

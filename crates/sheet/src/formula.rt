@@ -1,6 +1,5 @@
-use formulas::steps::{Step, Top};
+use formulas::steps::Step;
 use operators::named::Named;
-use operators::set::OperatorSet;
 use printing::labels::label;
 use printing::pieces::Piece;
 use printing::writing::print;
@@ -43,7 +42,7 @@ impl<'a, N: Named> Labels<'a, N> {
     fn piece(&self, step: &Step) -> Piece<'_> {
         Piece {
             label: label(self.text, &self.names, self.spans, step.top),
-            arity: arity_of(self.set, step.top),
+            arity: step.top.arity(self.set),
             args: step.args.map(usize::from),
         }
     }
@@ -59,12 +58,5 @@ impl<'a, N: Named> Labels<'a, N> {
             }
             Err(_) => Vec::from_slice(heap, b"long"),
         }
-    }
-}
-
-fn arity_of<S: OperatorSet>(set: &S, top: Top) -> u8 {
-    match top {
-        Top::Channel(_) => 0,
-        Top::Operator(op) => set.arity(op),
     }
 }

@@ -1,8 +1,8 @@
 use Rattle.std.proofs.Common.{take}
 use Rattle.std.specs.List.{flat_map}
+use Rattle.lent.specs.Puts.{Behind}
 use Rattle.records.specs.Bytes.{field_of}
-use Rattle.lent.specs.Puts.{Puts}
 use Rattle.records.proofs.write.put_fields.Given as goal
 
 abbrev pub invariant-loop-step : goal.invariant-loop-step
-invariant-loop-step l = Puts l.initial.out l.out l.from l.at (flat_map field_of (take l.step-index l.steps))
+invariant-loop-step l = Behind l.initial.front l.front (flat_map field_of (take l.step-index l.steps))

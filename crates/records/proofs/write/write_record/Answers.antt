@@ -1,10 +1,9 @@
-use Rattle.std.proofs.Common.{List, ◌++◌, map, length, refl, ap, ◌∙◌, subst, arith}
-use Rattle.std.specs.List.{flat_map}
+use Rattle.std.proofs.Common.{rules, List, length, refl, ap, subst, arith}
 use Rattle.formulas.specs.Steps.{listed}
 use Rattle.formulas.specs.declared.steps.Step.{Step}
-use Rattle.records.specs.Bytes.{two_bytes, step_code, field_of, record_of}
+use Rattle.records.specs.Bytes.{record_of}
 use Rattle.lent.specs.Puts.{Put, Puts}
-use Rattle.lent.proofs.Chains.{chain, whole}
+use Rattle.lent.proofs.Chains.{whole}
 use Rattle.records.proofs.Roundtrip.{record_length, reads_back}
 use Rattle.records.proofs.write.write_record.Goals as goal
 
@@ -20,13 +19,9 @@ returns c =
     let L = listed c.args.steps.now in
     let e = record_length L in
     let n = ap length c.as_slice-list.ensures in
-    let a = c.put-codes.new.out in
-    let b = c.put_codes-fields.new.out in
-    let t = c.put_fields.new.out in
-    let count : Puts s a 0 c.put-codes.result (two_bytes (length L)) = subst (λ x. Puts s a 0 c.put-codes.result x) (c.two_bytes.ensures ∙ ap two_bytes n) c.put-codes.ensures in
-    let codes : Puts a b c.put-codes.result c.put_codes-fields.result (map step_code L) = subst (λ (l : List Step). Puts a b c.put-codes.result c.put_codes-fields.result (map step_code l)) c.as_slice-list.ensures c.put_codes-fields.ensures in
-    let fields : Puts b t c.put_codes-fields.result c.put_fields.result (flat_map field_of L) = subst (λ (l : List Step). Puts b t c.put_codes-fields.result c.put_fields.result (flat_map field_of l)) c.as_slice-list.ensures c.put_fields.ensures in
-    let tail = chain a b t c.put-codes.result c.put_codes-fields.result c.put_fields.result (map step_code L) (flat_map field_of L) (omega arith) codes fields in
-    let put : Put s t 0 c.put_fields.result (record_of L) = chain s a t 0 c.put-codes.result c.put_fields.result (two_bytes (length L)) (map step_code L ++ flat_map field_of L) (omega arith) count tail (omega arith) in
+    let done : Puts s c.put_record.new.front.out.now 0 c.put_record.new.front.at (record_of L) = subst (λ (l : List Step). Puts s c.put_record.new.front.out.now 0 c.put_record.new.front.at (record_of l)) c.as_slice-list.ensures c.put_record.ensures.put in
+    let put : Put s c.put_record.new.front.out.now 0 c.put_record.new.front.at (record_of L) = done (omega arith) in
     let r = put.behind in
-    record { written = (omega arith, whole s t c.put_fields.result (record_of L) put, omega arith); back = reads_back L }
+    let w = whole s c.put_record.new.front.out.now c.put_record.new.front.at (record_of L) put in
+    let back = reads_back L in
+    search rules

@@ -1,7 +1,7 @@
 use Rattle.std.proofs.Common.{refl, ◌∙◌, arith}
 use Rattle.search.specs.Stored.{build}
 use Rattle.search.specs.Order.{channel}
-use Rattle.search.proofs.Nest.{through_turn, through_more, through_all}
+use Rattle.search.proofs.Nest.{through_turn, through_more}
 use Rattle.search.proofs.Offers.{build-past, build_hit}
 use Rattle.finder.specs.View.{setting, rows_seen, held_seen}
 use Rattle.finder.proofs.problem.Problem.build_channels.Goals as goal

@@ -1,14 +1,14 @@
-use Rattle.std.proofs.Common.{◌≡◌, ◌+◌, ◌<◌, [], ◌∷◌, ◌++◌, map, length, get_or, drop, get_or-take, sym, ap, ◌∙◌, arith}
+use Rattle.std.proofs.Common.{◌≡◌, ◌+◌, ◌<◌, [], ◌∷◌, ◌++◌, length, get_or, drop, get_or-take, sym, ap, ◌∙◌, arith}
 use Rattle.search.specs.Places as places
 use Rattle.search.specs.Stored.{no_place}
 use Rattle.search.specs.Marks.{marked_steps, renumbered, steps_of}
 use Rattle.finder.specs.declared.bank.Place.{Place}
 use Rattle.finder.specs.View.{bank_seen, candidate_seen, place_seen}
-use Rattle.finder.specs.Whole.{steps_seen, step_seen}
+use Rattle.finder.specs.Whole.{steps_seen}
 use Rattle.formulas.specs.Steps.{Steps}
 use Rattle.fixed.proofs.Lengths.{listed-length}
 use Rattle.finder.proofs.Seen.{seen_length, front_at}
-use Rattle.finder.proofs.Listing.{none-listed, pushed_count, pushed_seen, marked_yes, marked_no, marked_end}
+use Rattle.finder.proofs.Listing.{pushed_count, pushed_seen, marked_yes, marked_no, marked_end}
 use Rattle.finder.proofs.problem.Problem.steps_of.Goals as goal
 use Rattle.finder.proofs.problem.Problem.steps_of.Goals.{then-marks-i, else-marks-i}
 

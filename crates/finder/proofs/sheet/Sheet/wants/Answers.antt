@@ -1,4 +1,4 @@
-use Rattle.std.proofs.Common.{◌≡◌, List, length, map, take, sym, ap, ◌∙◌}
+use Rattle.std.proofs.Common.{◌≡◌, length, map, take, sym, ap, ◌∙◌}
 use Rattle.fixed.specs.Listed.{listed}
 use Rattle.fixed.proofs.Lengths.{listed-length}
 use Rattle.rows.specs.Rows.{wanted_of}

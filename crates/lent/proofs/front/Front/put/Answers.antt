@@ -1,0 +1,21 @@
+use Rattle.std.proofs.Common.{rules, ◌+◌, ◌-◌, ◌++◌, length, take, refl, ap, ◌∙◌, arith}
+use Rattle.std.proofs.lemmas.Slice.{take-put_mid, drop-put_mid}
+use Rattle.lent.proofs.front.Front.put.Goals as goal
+
+pub returns : goal.returns
+returns c =
+    let i = c.args.self.now.at in
+    let s = c.args.self.now.out.now in
+    let n = length c.args.bytes.now in
+    let ys = c.copy_from_slice.new.self in
+    let same = c.copy_from_slice.ensures.after in
+    let sizes = ap length same in
+    record {
+      put = λ h. record {
+        behind = refl;
+        front = take-put_mid i ((i + n) - i) s ys (i + n) (omega arith) (omega arith) ∙ ap (λ l. take i s ++ l) same;
+        rest = drop-put_mid i ((i + n) - i) s ys (i + n) (omega arith) (omega arith) (omega arith);
+      };
+      long = search rules;
+      same = refl;
+    }

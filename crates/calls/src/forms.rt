@@ -1,20 +1,8 @@
 ghost use Rattle.std.specs.Prelude.{◌≡◌};
 ghost use Rattle.calls.specs.Forms.{hex_value, decimal_value, bits_of, number_of};
 
-use std::alloc::{AllocError, Global};
-
-// The value of a hexadecimal digit, lower case.
-fn hex_digit(b: u8) -> Option<u8>
-    ensures { result ≡ hex_value b }
-{
-    if b >= b'0' && b <= b'9' {
-        Some(b - b'0')
-    } else if b >= b'a' && b <= b'f' {
-        Some(b - b'a' + 10)
-    } else {
-        None
-    }
-}
+use crate::error::CallError;
+use std::alloc::Global;
 
 fn decimal_digit(b: u8) -> Option<u8>
     ensures { result ≡ decimal_value b }
@@ -22,6 +10,16 @@ fn decimal_digit(b: u8) -> Option<u8>
     match b {
         b'0'..=b'9' => Some(b - b'0'),
         _ => None,
+    }
+}
+
+// The value of a hexadecimal digit, lower case.
+fn hex_digit(b: u8) -> Option<u8>
+    ensures { result ≡ hex_value b }
+{
+    match b {
+        b'a'..=b'f' => Some(b - b'a' + 10),
+        _ => decimal_digit(b),
     }
 }
 
@@ -61,36 +59,32 @@ pub(crate) fn number(word: &[u8]) -> Option<u8>
 
 // The number that decimal digits write, or the greatest there is where it is greater.
 pub(crate) fn plain(word: &[u8]) -> Option<usize> {
-    if word.len() < 1 {
+    if word.is_empty() {
         return None;
     }
-    let mut n: usize = 0;
-    for b in word {
-        let digit = decimal_digit(*b)?;
-        n = n.saturating_mul(10).saturating_add(digit as usize);
-    }
-    Some(n)
+    word.iter().try_fold(0usize, |n, b| {
+        Some(
+            n.saturating_mul(10)
+                .saturating_add(decimal_digit(*b)? as usize),
+        )
+    })
 }
 
 // The byte that two hexadecimal digits write.
-fn byte(high: u8, low: u8) -> Option<u8> {
-    Some(hex_digit(high)? * 16 + hex_digit(low)?)
+fn byte(digits: &[u8; 2]) -> Option<u8> {
+    Some(hex_digit(digits[0])? * 16 + hex_digit(digits[1])?)
 }
 
 // The bytes that hexadecimal digits write, two for each byte, and `-` for none.
-pub(crate) fn bytes(heap: Global, word: &[u8]) -> Result<Option<Vec<u8>>, AllocError> {
-    let mut out = Vec::new(heap);
-    if word == b"-".as_slice() {
-        return Ok(Some(out));
+pub(crate) fn bytes(heap: Global, word: &[u8]) -> Result<Vec<u8>, CallError> {
+    if let b"-" = word {
+        return Ok(Vec::new(heap));
     }
-    if word.len() % 2 != 0 {
-        return Ok(None);
-    }
-    for i in 0..word.len() / 2 {
-        let Some(b) = byte(word[2 * i], word[2 * i + 1]) else {
-            return Ok(None);
-        };
-        out.push(b)?;
-    }
-    Ok(Some(out))
+    let (pairs, []) = word.as_chunks::<2>() else {
+        return Err(CallError::Unknown);
+    };
+    pairs
+        .iter()
+        .map(|digits| byte(digits).ok_or(CallError::Unknown))
+        .try_collect(heap)
 }

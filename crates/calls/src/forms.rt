@@ -1,5 +1,5 @@
 ghost use Rattle.std.specs.Prelude.{◌≡◌};
-ghost use Rattle.calls.specs.Forms.{hex_value, decimal_value, bits_of, number_of};
+ghost use Rattle.calls.specs.Forms.{hex_value, hex_next, decimal_value, decimal_next, bits_of, number_of};
 
 use crate::error::CallError;
 use std::alloc::Global;
@@ -23,38 +23,38 @@ fn hex_digit(b: u8) -> Option<u8>
     }
 }
 
+// A number of 64 bits with one hexadecimal digit more.
+fn hex_more(n: u64, b: &u8) -> Option<u64>
+    ensures { result ≡ hex_next n b.now }
+{
+    n.checked_mul(16)?.checked_add(hex_digit(*b)? as u64)
+}
+
 // The number that one to sixteen hexadecimal digits write.
 pub(crate) fn bits(word: &[u8]) -> Option<u64>
     ensures { result ≡ bits_of word.now }
 {
-    if word.len() < 1 || word.len() > 16 {
+    if word.is_empty() || word.len() > 16 {
         return None;
     }
-    let mut n: u64 = 0;
-    for b in word {
-        let digit = hex_digit(*b)?;
-        n = n * 16 + digit as u64;
-    }
-    Some(n)
+    word.iter().try_fold(0, hex_more)
+}
+
+// A number up to 255 with one decimal digit more.
+fn decimal_more(n: u8, b: &u8) -> Option<u8>
+    ensures { result ≡ decimal_next n b.now }
+{
+    n.checked_mul(10)?.checked_add(decimal_digit(*b)?)
 }
 
 // The number from 0 to 255 that decimal digits write.
 pub(crate) fn number(word: &[u8]) -> Option<u8>
     ensures { result ≡ number_of word.now }
 {
-    if word.len() < 1 {
+    if word.is_empty() {
         return None;
     }
-    let mut n: u8 = 0;
-    for b in word {
-        let digit = decimal_digit(*b)?;
-        let next = n as u16 * 10 + digit as u16;
-        if next > 255 {
-            return None;
-        }
-        n = next as u8;
-    }
-    Some(n)
+    word.iter().try_fold(0, decimal_more)
 }
 
 // The number that decimal digits write, or the greatest there is where it is greater.

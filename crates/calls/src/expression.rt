@@ -20,6 +20,14 @@ fn bits_of(word: &[u8]) -> Result<u64, CallError> {
     bits(word).ok_or(CallError::Unknown)
 }
 
+// The built-in set behind the bits that a word writes.
+fn masked_builtin(word: &[u8]) -> Result<Mask<Builtin>, CallError> {
+    Ok(Mask {
+        set: Builtin,
+        bits: bits_of(word)?,
+    })
+}
+
 // A mask over what words say: the built-in set, a book, or the two as a pair.
 fn masked(heap: Global, bits: u64, below: &[&[u8]]) -> Result<AnySet, CallError> {
     match below {
@@ -98,18 +106,10 @@ fn paired(heap: Global, words: &[&[u8]]) -> Result<AnySet, CallError> {
             b"mask",
             second,
             b"builtin",
-        ] => {
-            Ok(AnySet::TwoMasks(Pair {
-                first: Mask {
-                    set: Builtin,
-                    bits: bits_of(first)?,
-                },
-                second: Mask {
-                    set: Builtin,
-                    bits: bits_of(second)?,
-                },
-            }))
-        }
+        ] => Ok(AnySet::TwoMasks(Pair {
+            first: masked_builtin(first)?,
+            second: masked_builtin(second)?,
+        })),
         _ => builtin_pairs(words),
     }
 }

@@ -1,2 +1,2 @@
-pub mod Cuts
 pub mod Forms
+pub mod Words

@@ -1,20 +1,8 @@
 ghost use Rattle.std.specs.Prelude.{◌≡◌};
-ghost use Rattle.calls.specs.Forms.{hex_value, decimal_value, bits_of, number_of};
+ghost use Rattle.calls.specs.Forms.{hex_value, hex_next, decimal_value, decimal_next, bits_of, number_of};
 
-use std::alloc::{AllocError, Global};
-
-// The value of a hexadecimal digit, lower case.
-fn hex_digit(b: u8) -> Option<u8>
-    ensures { result ≡ hex_value b }
-{
-    if b >= b'0' && b <= b'9' {
-        Some(b - b'0')
-    } else if b >= b'a' && b <= b'f' {
-        Some(b - b'a' + 10)
-    } else {
-        None
-    }
-}
+use crate::error::CallError;
+use std::alloc::Global;
 
 fn decimal_digit(b: u8) -> Option<u8>
     ensures { result ≡ decimal_value b }
@@ -25,72 +13,78 @@ fn decimal_digit(b: u8) -> Option<u8>
     }
 }
 
+// The value of a hexadecimal digit, lower case.
+fn hex_digit(b: u8) -> Option<u8>
+    ensures { result ≡ hex_value b }
+{
+    match b {
+        b'a'..=b'f' => Some(b - b'a' + 10),
+        _ => decimal_digit(b),
+    }
+}
+
+// A number of 64 bits with one hexadecimal digit more.
+fn hex_more(n: u64, b: &u8) -> Option<u64>
+    ensures { result ≡ hex_next n b.now }
+{
+    n.checked_mul(16)?.checked_add(hex_digit(*b)? as u64)
+}
+
 // The number that one to sixteen hexadecimal digits write.
 pub(crate) fn bits(word: &[u8]) -> Option<u64>
     ensures { result ≡ bits_of word.now }
 {
-    if word.len() < 1 || word.len() > 16 {
+    if word.is_empty() || word.len() > 16 {
         return None;
     }
-    let mut n: u64 = 0;
-    for b in word {
-        let digit = hex_digit(*b)?;
-        n = n * 16 + digit as u64;
-    }
-    Some(n)
+    word.iter().try_fold(0, hex_more)
+}
+
+// A number up to 255 with one decimal digit more.
+fn decimal_more(n: u8, b: &u8) -> Option<u8>
+    ensures { result ≡ decimal_next n b.now }
+{
+    n.checked_mul(10)?.checked_add(decimal_digit(*b)?)
 }
 
 // The number from 0 to 255 that decimal digits write.
 pub(crate) fn number(word: &[u8]) -> Option<u8>
     ensures { result ≡ number_of word.now }
 {
-    if word.len() < 1 {
+    if word.is_empty() {
         return None;
     }
-    let mut n: u8 = 0;
-    for b in word {
-        let digit = decimal_digit(*b)?;
-        let next = n as u16 * 10 + digit as u16;
-        if next > 255 {
-            return None;
-        }
-        n = next as u8;
-    }
-    Some(n)
+    word.iter().try_fold(0, decimal_more)
 }
 
 // The number that decimal digits write, or the greatest there is where it is greater.
 pub(crate) fn plain(word: &[u8]) -> Option<usize> {
-    if word.len() < 1 {
+    if word.is_empty() {
         return None;
     }
-    let mut n: usize = 0;
-    for b in word {
-        let digit = decimal_digit(*b)?;
-        n = n.saturating_mul(10).saturating_add(digit as usize);
-    }
-    Some(n)
+    word.iter().try_fold(0usize, |n, b| {
+        Some(
+            n.saturating_mul(10)
+                .saturating_add(decimal_digit(*b)? as usize),
+        )
+    })
 }
 
 // The byte that two hexadecimal digits write.
-fn byte(high: u8, low: u8) -> Option<u8> {
-    Some(hex_digit(high)? * 16 + hex_digit(low)?)
+fn byte(digits: &[u8; 2]) -> Option<u8> {
+    Some(hex_digit(digits[0])? * 16 + hex_digit(digits[1])?)
 }
 
 // The bytes that hexadecimal digits write, two for each byte, and `-` for none.
-pub(crate) fn bytes(heap: Global, word: &[u8]) -> Result<Option<Vec<u8>>, AllocError> {
-    let mut out = Vec::new(heap);
-    if word == b"-".as_slice() {
-        return Ok(Some(out));
+pub(crate) fn bytes(heap: Global, word: &[u8]) -> Result<Vec<u8>, CallError> {
+    if let b"-" = word {
+        return Ok(Vec::new(heap));
     }
-    if word.len() % 2 != 0 {
-        return Ok(None);
-    }
-    for i in 0..word.len() / 2 {
-        let Some(b) = byte(word[2 * i], word[2 * i + 1]) else {
-            return Ok(None);
-        };
-        out.push(b)?;
-    }
-    Ok(Some(out))
+    let (pairs, []) = word.as_chunks::<2>() else {
+        return Err(CallError::Unknown);
+    };
+    pairs
+        .iter()
+        .map(|digits| byte(digits).ok_or(CallError::Unknown))
+        .try_collect(heap)
 }

@@ -3,10 +3,11 @@
 #![tactic(auto)]
 
 mod answer;
-mod cuts;
+mod error;
 mod expression;
 mod forms;
 mod session;
+mod words;
 
 use session::answers_to;
 use std::io;
@@ -21,7 +22,7 @@ fn read_calls(rt: &HostRuntime) -> io::Result<Vec<u8>> {
 fn run(rt: &HostRuntime) -> anyhow::Result<()> {
     let text = read_calls(rt)?;
     let answers = answers_to(rt.alloc(), &text)?;
-    rt.stdout().write_all(&answers)?;
+    rt.stdout().write_all(answers.as_bytes())?;
     Ok(())
 }
 

@@ -1,3 +1,4 @@
+use crate::shared::{SUM, refused};
 use laws::law::Law;
 use operators::builtin::Builtin;
 use operators::set::OperatorSet;
@@ -5,16 +6,9 @@ use rows::channels::ChannelCount;
 use std::process::Abort;
 use std::test::Fail;
 
-const SUM: [u8; 17] = [0, 3, 64, 65, 3, 0, 0, 0, 0, 0, 0, 0, 0, 0, 0, 0, 1];
-
 fn answers(rt: &impl Abort, law: &Law<Builtin>, reading: &[u8], band: u8) -> Result<(), Fail> {
-    match law.band(reading) {
-        Ok(answer) => {
-            assert_eq!(rt; answer, band);
-            Ok(())
-        },
-        Err(_) => Err(Fail::new("refused")),
-    }
+    assert_eq!(rt; law.band(reading)?, band);
+    Ok(())
 }
 
 fn refuses(
@@ -24,14 +18,8 @@ fn refuses(
     number: u8,
     place: usize,
 ) -> Result<(), Fail> {
-    match law.band(reading) {
-        Ok(_) => Err(Fail::new("answered")),
-        Err(refusal) => {
-            assert_eq!(rt; refusal.number(), number);
-            assert_eq!(rt; refusal.place(), place);
-            Ok(())
-        }
-    }
+    assert_eq!(rt; refused(law.band(reading))?, (number, place));
+    Ok(())
 }
 
 #[test]
@@ -64,21 +52,12 @@ fn readings_that_are_refused(rt: HostRuntime) -> Result<(), Fail> {
 fn the_same_bytes_again(rt: HostRuntime) -> Result<(), Fail> {
     let mut law = Law::new(Builtin, ChannelCount::new(2)?);
     let mut buffer = [7; 18];
-    match law.record(&mut buffer) {
-        Ok(_) => return Err(Fail::new("written")),
-        Err(refusal) => assert_eq!(rt; refusal.number(), 8),
-    }
+    assert_eq!(rt; refused(law.record(&mut buffer))?.0, 8);
     assert!(rt; law.fill(&SUM).is_ok());
-    match law.record(&mut buffer) {
-        Ok(size) => assert_eq!(rt; size, 17),
-        Err(_) => return Err(Fail::new("refused")),
-    }
+    assert_eq!(rt; law.record(&mut buffer)?, 17);
     assert!(rt; &buffer[0..17] == &SUM[..] && buffer[17] == 7);
     let mut small = [7; 16];
-    match law.record(&mut small) {
-        Ok(_) => return Err(Fail::new("written")),
-        Err(refusal) => assert_eq!(rt; refusal.number(), 9),
-    }
+    assert_eq!(rt; refused(law.record(&mut small))?.0, 9);
     assert!(rt; small == [7; 16]);
     Ok(())
 }
@@ -86,12 +65,6 @@ fn the_same_bytes_again(rt: HostRuntime) -> Result<(), Fail> {
 #[test]
 fn a_record_for_more_channels(rt: HostRuntime) -> Result<(), Fail> {
     let mut law = Law::new(Builtin, ChannelCount::new(1)?);
-    match law.fill(&SUM) {
-        Ok(_) => Err(Fail::new("filled")),
-        Err(refusal) => {
-            assert_eq!(rt; refusal.number(), 17);
-            assert_eq!(rt; refusal.place(), 1);
-            Ok(())
-        }
-    }
+    assert_eq!(rt; refused(law.fill(&SUM))?, (17, 1));
+    Ok(())
 }

@@ -7,6 +7,8 @@ mod laws_of_readings;
 #[cfg(test)]
 mod reading;
 #[cfg(test)]
+mod shared;
+#[cfg(test)]
 mod worth;
 #[cfg(test)]
 mod writing;

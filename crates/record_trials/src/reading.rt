@@ -1,3 +1,4 @@
+use crate::shared::refused;
 use operators::builtin::Builtin;
 use records::read::read_record;
 use rows::channels::ChannelCount;
@@ -6,27 +7,16 @@ use std::test::Fail;
 
 // With the built-in operators and two channels: the number of steps that is read.
 fn reads(rt: &impl Abort, bytes: &[u8], steps: usize) -> Result<(), Fail> {
-    let channels = ChannelCount::new(2)?;
-    match read_record(bytes, &Builtin, channels) {
-        Ok(read) => {
-            assert_eq!(rt; read.count, steps);
-            Ok(())
-        },
-        Err(_) => Err(Fail::new("refused")),
-    }
+    let read = read_record(bytes, &Builtin, ChannelCount::new(2)?)?;
+    assert_eq!(rt; read.count, steps);
+    Ok(())
 }
 
 // The number and the place that a record is refused with.
 fn refuses(rt: &impl Abort, bytes: &[u8], number: u8, place: usize) -> Result<(), Fail> {
-    let channels = ChannelCount::new(2)?;
-    match read_record(bytes, &Builtin, channels) {
-        Ok(_) => Err(Fail::new("read")),
-        Err(refusal) => {
-            assert_eq!(rt; refusal.number(), number);
-            assert_eq!(rt; refusal.place(), place);
-            Ok(())
-        }
-    }
+    let read = read_record(bytes, &Builtin, ChannelCount::new(2)?);
+    assert_eq!(rt; refused(read)?, (number, place));
+    Ok(())
 }
 
 #[test]
@@ -53,9 +43,7 @@ fn most_steps(rt: HostRuntime) -> Result<(), Fail> {
     let mut bytes = [0; 2567];
     bytes[0] = 2;
     bytes[1] = 1;
-    for i in 2..515 {
-        bytes[i] = 64;
-    }
+    bytes[2..515].fill(64);
     reads(&rt, &bytes, 513)?;
     // the argument of the last step is step 512, which is itself, and then step 511
     bytes[514] = 2;

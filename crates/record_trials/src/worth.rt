@@ -1,3 +1,4 @@
+use crate::shared::SUM;
 use evaluation::band::band_of;
 use evaluation::column::column_of;
 use evaluation::weight::weight_of;
@@ -9,15 +10,11 @@ use rows::channels::ChannelCount;
 use rows::row::Row;
 use std::test::Fail;
 
-const SUM: [u8; 17] = [0, 3, 64, 65, 3, 0, 0, 0, 0, 0, 0, 0, 0, 0, 0, 0, 1];
-
 // sum(P1,P2): bands, a column, weights.
 #[test]
 fn what_a_sum_is_worth(rt: HostRuntime) -> Result<(), Fail> {
     let channels = ChannelCount::new(2)?;
-    let Ok(steps) = read_record(&SUM, &Builtin, channels) else {
-        return Err(Fail::new("refused"));
-    };
+    let steps = read_record(&SUM, &Builtin, channels)?;
     assert_eq!(rt; band_of(&steps, &Builtin, &[9, 7]), 14);
     assert_eq!(rt; band_of(&steps, &Builtin, &[1]), 15);
     let rows = [

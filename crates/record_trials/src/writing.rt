@@ -1,11 +1,10 @@
+use crate::shared::{SUM, refused};
 use formulas::steps::{Step, Steps, Top};
 use operators::builtin::Builtin;
 use records::rewrite::rewrite;
 use records::write::write_record;
 use rows::channels::ChannelCount;
 use std::test::Fail;
-
-const SUM: [u8; 17] = [0, 3, 64, 65, 3, 0, 0, 0, 0, 0, 0, 0, 0, 0, 0, 0, 1];
 
 #[test]
 fn the_record_of_a_sum(rt: HostRuntime) -> Result<(), Fail> {
@@ -23,16 +22,10 @@ fn the_record_of_a_sum(rt: HostRuntime) -> Result<(), Fail> {
         args: [0, 1],
     });
     let mut small = [7; 16];
-    match write_record(&steps, &mut small) {
-        Ok(_) => return Err(Fail::new("written")),
-        Err(refusal) => assert_eq!(rt; refusal.number(), 9),
-    }
+    assert_eq!(rt; refused(write_record(&steps, &mut small))?.0, 9);
     assert!(rt; small == [7; 16]);
     let mut buffer = [7; 18];
-    match write_record(&steps, &mut buffer) {
-        Ok(size) => assert_eq!(rt; size, 17),
-        Err(_) => return Err(Fail::new("refused")),
-    }
+    assert_eq!(rt; write_record(&steps, &mut buffer)?, 17);
     assert!(rt; &buffer[0..17] == &SUM[..] && buffer[17] == 7);
     Ok(())
 }
@@ -41,25 +34,16 @@ fn the_record_of_a_sum(rt: HostRuntime) -> Result<(), Fail> {
 fn the_same_bytes_again(rt: HostRuntime) -> Result<(), Fail> {
     let channels = ChannelCount::new(2)?;
     let mut buffer = [7; 18];
-    match rewrite(&SUM, &Builtin, channels, &mut buffer) {
-        Ok(size) => assert_eq!(rt; size, 17),
-        Err(_) => return Err(Fail::new("refused")),
-    }
+    let Ok(size) = rewrite(&SUM, &Builtin, channels, &mut buffer) else {
+        return Err(Fail::new("refused"));
+    };
+    assert_eq!(rt; size, 17);
     assert!(rt; &buffer[0..17] == &SUM[..] && buffer[17] == 7);
     let one = ChannelCount::new(1)?;
-    match rewrite(&SUM, &Builtin, one, &mut buffer) {
-        Ok(_) => return Err(Fail::new("written")),
-        Err(refusal) => {
-            assert_eq!(rt; refusal.number(), 17);
-            assert_eq!(rt; refusal.place(), 1);
-        }
-    }
+    let rewritten = rewrite(&SUM, &Builtin, one, &mut buffer);
+    assert_eq!(rt; refused(rewritten)?, (17, 1));
     let mut small = [7; 16];
-    match rewrite(&SUM, &Builtin, channels, &mut small) {
-        Ok(_) => Err(Fail::new("written")),
-        Err(refusal) => {
-            assert_eq!(rt; refusal.number(), 9);
-            Ok(())
-        },
-    }
+    let rewritten = rewrite(&SUM, &Builtin, channels, &mut small);
+    assert_eq!(rt; refused(rewritten)?.0, 9);
+    Ok(())
 }

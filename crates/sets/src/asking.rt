@@ -16,6 +16,24 @@ use crate::any_set::AnySet;
 use operators::named::Named;
 use operators::set::OperatorSet;
 
+// What a call on the set that is held answers. A macro, since the check cannot state a bound on a closure that takes a `&dyn Named`.
+macro_rules! held {
+    ($any:expr, $set:ident => $answer:expr) => {
+        match $any {
+            AnySet::Builtin($set) => $answer,
+            AnySet::Book($set) => $answer,
+            AnySet::BuiltinThenBook($set) => $answer,
+            AnySet::BookThenBuiltin($set) => $answer,
+            AnySet::MaskedBuiltin($set) => $answer,
+            AnySet::MaskedBook($set) => $answer,
+            AnySet::MaskedPair($set) => $answer,
+            AnySet::TwoMasks($set) => $answer,
+            AnySet::Four($set) => $answer,
+            AnySet::Eight($set) => $answer,
+        }
+    };
+}
+
 impl OperatorSet for AnySet {
     ghost meaning = { chosen_meaning };
 
@@ -33,48 +51,15 @@ impl OperatorSet for AnySet {
     ] };
 
     fn count(&self) -> u8 {
-        match self {
-            AnySet::Builtin(set) => set.count(),
-            AnySet::Book(set) => set.count(),
-            AnySet::BuiltinThenBook(set) => set.count(),
-            AnySet::BookThenBuiltin(set) => set.count(),
-            AnySet::MaskedBuiltin(set) => set.count(),
-            AnySet::MaskedBook(set) => set.count(),
-            AnySet::MaskedPair(set) => set.count(),
-            AnySet::TwoMasks(set) => set.count(),
-            AnySet::Four(set) => set.count(),
-            AnySet::Eight(set) => set.count(),
-        }
+        held!(self, set => set.count())
     }
 
     fn arity(&self, op: u8) -> u8 {
-        match self {
-            AnySet::Builtin(set) => set.arity(op),
-            AnySet::Book(set) => set.arity(op),
-            AnySet::BuiltinThenBook(set) => set.arity(op),
-            AnySet::BookThenBuiltin(set) => set.arity(op),
-            AnySet::MaskedBuiltin(set) => set.arity(op),
-            AnySet::MaskedBook(set) => set.arity(op),
-            AnySet::MaskedPair(set) => set.arity(op),
-            AnySet::TwoMasks(set) => set.arity(op),
-            AnySet::Four(set) => set.arity(op),
-            AnySet::Eight(set) => set.arity(op),
-        }
+        held!(self, set => set.arity(op))
     }
 
     fn band(&self, op: u8, args: &[u8]) -> u8 {
-        match self {
-            AnySet::Builtin(set) => set.band(op, args),
-            AnySet::Book(set) => set.band(op, args),
-            AnySet::BuiltinThenBook(set) => set.band(op, args),
-            AnySet::BookThenBuiltin(set) => set.band(op, args),
-            AnySet::MaskedBuiltin(set) => set.band(op, args),
-            AnySet::MaskedBook(set) => set.band(op, args),
-            AnySet::MaskedPair(set) => set.band(op, args),
-            AnySet::TwoMasks(set) => set.band(op, args),
-            AnySet::Four(set) => set.band(op, args),
-            AnySet::Eight(set) => set.band(op, args),
-        }
+        held!(self, set => set.band(op, args))
     }
 }
 
@@ -99,17 +84,6 @@ impl Named for AnySet {
     ] };
 
     fn name(&self, op: u8) -> [u8; 4] {
-        match self {
-            AnySet::Builtin(set) => set.name(op),
-            AnySet::Book(set) => set.name(op),
-            AnySet::BuiltinThenBook(set) => set.name(op),
-            AnySet::BookThenBuiltin(set) => set.name(op),
-            AnySet::MaskedBuiltin(set) => set.name(op),
-            AnySet::MaskedBook(set) => set.name(op),
-            AnySet::MaskedPair(set) => set.name(op),
-            AnySet::TwoMasks(set) => set.name(op),
-            AnySet::Four(set) => set.name(op),
-            AnySet::Eight(set) => set.name(op),
-        }
+        held!(self, set => set.name(op))
     }
 }

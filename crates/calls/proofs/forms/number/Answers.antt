@@ -1,25 +1,12 @@
-use Rattle.std.proofs.Common.{Some, None, sym, ◌∙◌, arith}
-use Rattle.calls.proofs.Digits.{decimal-more, decimal-all, decimal-past, decimal_on, number_is}
+use Rattle.std.proofs.Common.{refl, arith, rules, tests}
+use Rattle.std.proofs.lemmas.Bool.Decides.{nat_tests}
+use Rattle.std.proofs.lemmas.Iterator.{YieldsList-from_slice}
+use Rattle.calls.specs.Forms.{decimal_after}
+use Rattle.calls.proofs.Digits.{number_is, decimal_after_next}
+use Rattle.calls.proofs.TryFold.{try_fold_is}
 use Rattle.calls.proofs.forms.number.Goals as goal
-
-pub returns-in_err-digit : goal.returns-in_err-digit
-returns-in_err-digit c =
-    c.from_residual.ensures
-    ∙ number_is c.args.word.now None (omega arith)
-    (sym c.loop-b.invariant.0 ∙ decimal-more c.args.word.now c.loop-b.b-index c.loop-b.n None (omega arith) c.in_err-digit.ensures)
-
-pub returns-then-next-gt255 : goal.returns-then-next-gt255
-returns-then-next-gt255 c =
-    number_is c.args.word.now None (omega arith)
-    (sym c.loop-b.invariant.0 ∙ decimal-past c.args.word.now c.loop-b.b-index c.loop-b.n c.in_ok-digit.digit (omega arith) c.in_ok-digit.ensures (omega arith))
-
-pub loop-b-preserved : goal.loop-b-preserved
-loop-b-preserved c = (
-  sym (decimal_on c.args.word.now c.loop-b.b-index c.loop-b.n c.in_ok-digit.digit (omega arith) c.in_ok-digit.ensures (omega arith)) ∙ c.loop-b.invariant.0,
-  omega arith,
-)
 
 pub returns : goal.returns
 returns c =
-    number_is c.args.word.now (Some c.loop-b.n) (omega arith)
-    (sym c.loop-b.invariant.0 ∙ decimal-all c.args.word.now c.loop-b.b-index c.loop-b.n (omega arith))
+    number_is c.args.word.now c.try_fold.result (grind (arith, nat_tests))
+    (try_fold_is _ (λ b. b.now) _ decimal_after _ (λ n x w q k. (search (rules, tests), λ ys. decimal_after_next n x.now w ys (search (rules, tests)))) _ 0 c.try_fold.result (λ n. refl) (YieldsList-from_slice c.args.word.now c.iter.ensures.rest) c.try_fold.ensures.ran)

@@ -13,7 +13,7 @@ use refusals::refusal::Refusal;
 use rows::channels::ChannelCount;
 
 // Why a record is not written again.
-#[derive(Clone, Copy)]
+#[derive(Clone, Copy, PartialEq, Eq, Debug)]
 pub enum RewriteRefusal {
     // The record is not lawful.
     Record(RecordRefusal),

@@ -26,13 +26,13 @@ use Rattle.finder.specs.declared.state.Finder.{Finder}
 
 abbrev pub status_seen : SetMeaning → State → machine.Status
 status_seen m state.Open = machine.is_open
-status_seen m (state.Found c p) = machine.is_found (candidate_seen m c) p.weight p.steps
+status_seen m (state.Found c p) = machine.is_found (candidate_seen m c) p.0 p.1
 status_seen m state.None = machine.is_none
 status_seen m state.Full = machine.is_full
 
 abbrev pub answer_seen : Answer → machine.Answer
 answer_seen (answer.Level w n) = machine.level w n
-answer_seen (answer.Found p) = machine.found p.weight p.steps
+answer_seen (answer.Found p) = machine.found p.0 p.1
 answer_seen answer.None = machine.none
 answer_seen answer.Full = machine.full
 
@@ -71,10 +71,18 @@ ComesTo m v s before after st a =
     (machine.advance_open (setting m v s) (whole m s before state.Open))
 
 abbrev pub ReadsAs : SetMeaning → MeasureMeaning → Sheet → Bank → LevelResult → Bank → Type 0
+ReadsAs m v s before result.Settled after = ⊥
 ReadsAs m v s before result.Nothing after = ComesTo m v s before after machine.is_none machine.none
-ReadsAs m v s before (result.Fits c p) after = ComesTo m v s before after (machine.is_found (candidate_seen m c) p.weight p.steps) (machine.found p.weight p.steps)
+ReadsAs m v s before (result.Fits c p) after = ComesTo m v s before after (machine.is_found (candidate_seen m c) p.0 p.1) (machine.found p.0 p.1)
 ReadsAs m v s before result.TooMany after = ComesTo m v s before after machine.is_full machine.full
 ReadsAs m v s before (result.Filled w n) after = ComesTo m v s before after machine.is_open (machine.level w n)
+
+-- what an advance comes to, by the state of the sheet
+abbrev pub LevelBy : SetMeaning → MeasureMeaning → Sheet → State → Bank → LevelResult → Bank → Type 0
+LevelBy m v s state.Open before r after = ReadsAs m v s before r after
+LevelBy m v s (state.Found c p) before r after = (r ≡ result.Settled) × (after ≡ before)
+LevelBy m v s state.None before r after = (r ≡ result.Settled) × (after ≡ before)
+LevelBy m v s state.Full before r after = (r ≡ result.Settled) × (after ≡ before)
 
 -- ── the steps of the formula found ──
 

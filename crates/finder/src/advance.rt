@@ -1,6 +1,6 @@
 ghost use Rattle.std.specs.Prelude.{◌≡◌, ℕ, ◌<◌, ◌≤◌};
 ghost use Rattle.search.specs.Machine.{Move, advance as advancing};
-ghost use Rattle.finder.specs.Whole.{whole, finder_seen, finder_setting, result_seen, ReadsAs};
+ghost use Rattle.finder.specs.Whole.{whole, finder_seen, finder_setting, result_seen, ReadsAs, LevelBy};
 ghost use Rattle.finder.specs.View.{setting};
 
 use crate::bank::Bank;
@@ -41,29 +41,40 @@ impl<S: OperatorSet, M: Measure> Problem<S, M> {
 
 impl Search {
     // A settled sheet costs no search.
+    fn next_result<S: OperatorSet, M: Measure>(&mut self, problem: &Problem<S, M>) -> LevelResult
+        ensures state { self.new.state ≡ self.old.state }
+        ensures result { LevelBy (S.OperatorSet.meaning problem.now.set) (M.Measure.meaning problem.now.measure) problem.now.sheet self.old.state self.old.bank result self.new.bank }
+    {
+        match self.state {
+            State::Open => problem.next_level(&mut self.bank),
+            State::Found(_, _) => LevelResult::Settled,
+            State::None => LevelResult::Settled,
+            State::Full => LevelResult::Settled,
+        }
+    }
+
     fn advance<S: OperatorSet, M: Measure>(
         &mut self,
         problem: &Problem<S, M>,
     ) -> Result<Answer, FirmwareRefusal>
         ensures { ◌≡◌ {A = Move} (record { answer = result_seen result; after = whole (S.OperatorSet.meaning problem.now.set) problem.now.sheet self.new.bank self.new.state }) (advancing (setting (S.OperatorSet.meaning problem.now.set) (M.Measure.meaning problem.now.measure) problem.now.sheet) (whole (S.OperatorSet.meaning problem.now.set) problem.now.sheet self.old.bank self.old.state)) }
     {
-        let State::Open = self.state else {
-            return Err(FirmwareRefusal::Settled);
-        };
-        match problem.next_level(&mut self.bank) {
-            LevelResult::Fits(candidate, found) => {
+        let result = self.next_result(problem);
+        match (self.state, result) {
+            (State::Open, LevelResult::Fits(candidate, found)) => {
                 self.state = State::Found(candidate, found);
                 Ok(Answer::Found(found))
             }
-            LevelResult::Nothing => {
+            (State::Open, LevelResult::Nothing) => {
                 self.state = State::None;
                 Ok(Answer::None)
             }
-            LevelResult::TooMany => {
+            (State::Open, LevelResult::TooMany) => {
                 self.state = State::Full;
                 Ok(Answer::Full)
             }
-            LevelResult::Filled(weight, places) => Ok(Answer::Level(weight, places)),
+            (State::Open, LevelResult::Filled(weight, places)) => Ok(Answer::Level(weight, places)),
+            (_, _) => Err(FirmwareRefusal::Settled),
         }
     }
 }

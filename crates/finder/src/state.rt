@@ -4,28 +4,21 @@ use measures::measure::Measure;
 use operators::set::OperatorSet;
 use std::fmt;
 
-// The weight and the number of steps of the formula found.
-#[derive(Clone, Copy, PartialEq, Eq, Debug)]
-pub struct Found {
-    pub weight: u32,
-    pub steps: usize,
-}
-
-// Whether the sheet is open, or as what it has settled: Found with what the formula is made of.
+// Whether the sheet is open, or as what it has settled: Found with what the formula is made of, and its weight and its number of steps as a pair.
 #[derive(Clone, Copy)]
 pub enum State {
     Open,
-    Found(Candidate, Found),
+    Found(Candidate, (u32, usize)),
     None,
     Full,
 }
 
-// What an advance answers: the level's weight and the places now filled; what was found; that there is no formula within the
-// limit; that the bank is too small.
+// What an advance answers: the level's weight and the places now filled; the weight and the number of steps of the formula
+// found; that there is none within the limit; that the bank is too small.
 #[derive(Clone, Copy, PartialEq, Eq, Debug)]
 pub enum Answer {
     Level(u32, usize),
-    Found(Found),
+    Found((u32, usize)),
     None,
     Full,
 }
@@ -34,18 +27,19 @@ impl fmt::Display for Answer {
     fn fmt<W: fmt::Write>(&self, f: &mut fmt::Formatter<W>) -> fmt::Result {
         match *self {
             Answer::Level(weight, places) => write!(f, "level {weight} {places}"),
-            Answer::Found(Found { weight, steps }) => write!(f, "found {weight} steps {steps}"),
+            Answer::Found((weight, steps)) => write!(f, "found {weight} steps {steps}"),
             Answer::None => write!(f, "none"),
             Answer::Full => write!(f, "full"),
         }
     }
 }
 
-// What an advance on an open sheet comes to.
+// What an advance comes to. A settled sheet is not searched.
 #[derive(Clone, Copy)]
 pub enum LevelResult {
+    Settled,
     Nothing,
-    Fits(Candidate, Found),
+    Fits(Candidate, (u32, usize)),
     TooMany,
     Filled(u32, usize),
 }

@@ -4,7 +4,6 @@ ghost use Rattle.finder.specs.View.{bank_seen, candidate_seen};
 
 use crate::bank::{Bank, Candidate};
 use crate::problem::Problem;
-use crate::state::Found;
 use measures::measure::Measure;
 use operators::set::OperatorSet;
 
@@ -81,13 +80,9 @@ impl<S: OperatorSet, M: Measure> Problem<S, M> {
     }
 
     // The weight, and how many different parts the formula of the candidate has, itself included.
-    pub(crate) fn counted(&self, bank: &Bank, candidate: Candidate, weight: u32) -> Found
-        ensures weight { result.weight ≡ weight }
-        ensures steps { result.steps ≡ steps_at (bank_seen (S.OperatorSet.meaning self.now.set) self.now.sheet.rows.count bank.now) (candidate_seen (S.OperatorSet.meaning self.now.set) candidate) }
+    pub(crate) fn counted(&self, bank: &Bank, candidate: Candidate, weight: u32) -> (u32, usize)
+        ensures { result ≡ (weight, steps_at (bank_seen (S.OperatorSet.meaning self.now.set) self.now.sheet.rows.count bank.now) (candidate_seen (S.OperatorSet.meaning self.now.set) candidate)) }
     {
-        Found {
-            weight,
-            steps: self.marks_of(bank, candidate).count() + 1,
-        }
+        (weight, self.marks_of(bank, candidate).count() + 1)
     }
 }

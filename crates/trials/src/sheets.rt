@@ -1,4 +1,4 @@
-use finder::state::{Answer, Finder, Found};
+use finder::state::{Answer, Finder};
 use measures::charge::Charge;
 use measures::depth::Depth;
 use measures::measure::Measure;
@@ -29,11 +29,6 @@ fn sheet<M: Measure + Drop>(
     Ok(finder)
 }
 
-// The answer that a formula of this weight and so many steps is found.
-fn found(weight: u32, steps: usize) -> Answer {
-    Answer::Found(Found { weight, steps })
-}
-
 // The two rows of the worked sheet: wanted band, then two channels, which it is the sum of.
 const SUMS: [&[u8]; 2] = [&[5, 3, 2], &[8, 5, 3]];
 
@@ -43,7 +38,7 @@ fn sum_is_found_at_the_third_advance(rt: HostRuntime) -> Result<(), Fail> {
     assert_eq!(rt; finder.advance()?, Answer::Level(1, 4));
     assert_eq!(rt; finder.advance()?, Answer::Level(2, 7));
     assert!(rt; finder.formula().is_none());
-    assert_eq!(rt; finder.advance()?, found(3, 3));
+    assert_eq!(rt; finder.advance()?, Answer::Found((3, 3)));
     assert_eq!(rt; finder.advance(), Err(FirmwareRefusal::Settled));
     assert!(rt; finder.formula().is_some());
     Ok(())
@@ -54,7 +49,7 @@ fn limit_three_still_finds_it(rt: HostRuntime) -> Result<(), Fail> {
     let mut finder = sheet(2, 3, Charge::nodes(), &SUMS)?;
     assert_eq!(rt; finder.advance()?, Answer::Level(1, 4));
     assert_eq!(rt; finder.advance()?, Answer::Level(2, 7));
-    assert_eq!(rt; finder.advance()?, found(3, 3));
+    assert_eq!(rt; finder.advance()?, Answer::Found((3, 3)));
     Ok(())
 }
 
@@ -71,14 +66,14 @@ fn limit_two_does_not(rt: HostRuntime) -> Result<(), Fail> {
 fn by_depth_it_is_found_at_the_second(rt: HostRuntime) -> Result<(), Fail> {
     let mut finder = sheet(2, 10, Depth, &SUMS)?;
     assert_eq!(rt; finder.advance()?, Answer::Level(1, 4));
-    assert_eq!(rt; finder.advance()?, found(2, 3));
+    assert_eq!(rt; finder.advance()?, Answer::Found((2, 3)));
     Ok(())
 }
 
 #[test]
 fn with_no_row_the_first_channel_fits(rt: HostRuntime) -> Result<(), Fail> {
     let mut finder = sheet(2, 10, Charge::nodes(), &SUMS[0..0])?;
-    assert_eq!(rt; finder.advance()?, found(1, 1));
+    assert_eq!(rt; finder.advance()?, Answer::Found((1, 1)));
     Ok(())
 }
 
@@ -86,7 +81,7 @@ fn with_no_row_the_first_channel_fits(rt: HostRuntime) -> Result<(), Fail> {
 fn with_no_channel_constants_are_made(rt: HostRuntime) -> Result<(), Fail> {
     let mut finder = sheet(0, 10, Charge::nodes(), &[&[2]])?;
     assert_eq!(rt; finder.advance()?, Answer::Level(1, 2));
-    assert_eq!(rt; finder.advance()?, found(2, 2));
+    assert_eq!(rt; finder.advance()?, Answer::Found((2, 2)));
     Ok(())
 }
 
@@ -96,7 +91,7 @@ fn a_shared_part_is_one_step(rt: HostRuntime) -> Result<(), Fail> {
     let mut finder = sheet(1, 20, Charge::nodes(), &[&[6, 3], &[2, 1], &[14, 7]])?;
     assert_eq!(rt; finder.advance()?, Answer::Level(1, 3));
     assert_eq!(rt; finder.advance()?, Answer::Level(2, 5));
-    assert_eq!(rt; finder.advance()?, found(3, 2));
+    assert_eq!(rt; finder.advance()?, Answer::Found((3, 2)));
     Ok(())
 }
 

@@ -51,7 +51,7 @@ returns-in-Some g c =
     let w = c.value-weight.result in
     let t = candidate_seen m c.in-Some.candidate in
     let q : bank_seen m n c.cut.new.self ≡ bank_seen m n b = c.cut.ensures m n ∙ kept-places g (goal.at.returns-in-Some g c).After-build-found in
-    ap₂ (λ (ps : List places.Place) (p : ℕ × ℕ). move_to (found p.0 p.1) (record { rows = st.rows; limit = st.limit; places = ps; status = is_found t p.0 p.1 })) q (ap₂ (λ (a b : ℕ). (a, b)) c.counted.ensures.weight (c.counted.ensures.steps ∙ ap (λ p. steps_at p t) q))
+    ap₂ (λ (ps : List places.Place) (p : ℕ × ℕ). move_to (found p.0 p.1) (record { rows = st.rows; limit = st.limit; places = ps; status = is_found t p.0 p.1 })) q (c.counted.ensures ∙ ap (λ p. (w, steps_at p t)) q)
     ∙ rule_found E st w (c.value-weight.ensures ∙ c.level-level.ensures) (omega (arith, c.get-limit.ensures)) (held_seen m n c.build-found.new.bank) t c.in-Some.ensures
 
 pub returns-then-weight-limit-2 : goal.returns-then-weight-limit-2

@@ -1,5 +1,5 @@
 -- The first place that passes a test.
-use Rattle.std.proofs.Common.{◌≡◌, ℕ, zero, suc, ◌+◌, ◌<◌, ◌≤◌, Bool, true, false, cond, Some, None, Option, MatchOption, List, sym, refl, ap, subst, ⊎_elim, add-one, arith}
+use Rattle.std.proofs.Common.{◌≡◌, ℕ, zero, suc, ◌<◌, ◌≤◌, Bool, true, false, cond, Some, None, Option, MatchOption, List, sym, refl, ap, subst, ⊎_elim, arith}
 use Rattle.std.proofs.lemmas.Bool.{cases_eq}
 use Rattle.std.proofs.lemmas.Iterator.{first_from_Range}
 use Rattle.std.proofs.iter.Yields.{nat_range_steps}
@@ -17,10 +17,6 @@ none-parts None true n e = let z : ◌≡◌ {A = ℕ} 0 1 = cc in absurd (omega
 none-parts None false n e = (refl, refl)
 
 module _ (test : ℕ → Bool) where
-  -- nothing so far, and nothing here
-  pub first_more_no : (n : ℕ) → first test n ≡ None → test n ≡ false → first test (n + 1) ≡ None
-  first_more_no n e f = rw (add-one n, e, f)
-
   -- the first is found here, and stays
   pub first-here : (p n : ℕ) → p < n → first test p ≡ None → test p ≡ true → first test n ≡ Some p
   first-here p zero h e f = absurd (omega arith)

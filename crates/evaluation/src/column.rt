@@ -28,6 +28,7 @@ pub fn column_of<S: OperatorSet>(
 {
     let mut bands = [MARK; 16];
     let first = &rows[..rows.len().min(16)];
+    // by index: of what `iter_mut` writes a proof knows nothing
     for (i, row) in first.iter().enumerate() {
         bands[i] = band_of(steps, set, reading(row, channels));
     }

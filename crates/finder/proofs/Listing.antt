@@ -10,9 +10,6 @@ use Rattle.search.specs.Stored.{no_place}
 use Rattle.search.specs.Marks.{renumbered, marked_steps}
 use Rattle.finder.specs.Whole.{step_seen, steps_seen}
 
-pub none-listed : (s : Steps) → listed s ≡ [] → s.count ≡ 0
-none-listed s e = sym (listed-length s) ∙ ap length e
-
 -- one step more
 module _ (m : SetMeaning) (s t : Steps) (x : Step) (r : Bool) (room : s.count < 513) (is : r ≡ ltb (length (listed s)) 513) (e : listed t ≡ cond r (listed s ++ x ∷ []) (listed s)) where
   pub pushed_count : t.count ≡ s.count + 1

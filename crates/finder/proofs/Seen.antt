@@ -6,9 +6,6 @@ use Rattle.fixed.specs.Listed.{listed}
 use Rattle.fixed.proofs.Lengths.{listed-length}
 use Rattle.std.proofs.lemmas.List.{get_or-map, get_or-take, get_or_past, length-map, length-take, length-take-le, take_more_set, map_push, ext_get_or}
 use Rattle.operators.specs.Bands.{SetMeaning}
-use Rattle.measures.specs.Values.{values}
-use Rattle.measures.specs.declared.weight.Weight.{Weight}
-use Rattle.measures.specs.Weights.{values_take}
 use Rattle.formulas.specs.Setting.{Setting}
 use Rattle.formulas.specs.declared.steps.Top.TheVariants.{Channel, Operator}
 use Rattle.rows.specs.Rows.{StandingRow, wanted_of}
@@ -17,7 +14,7 @@ use Rattle.rows.specs.declared.row.Row.{Row}
 use Rattle.search.specs.Lists.{In, numbers}
 use Rattle.search.specs.Places as places
 use Rattle.search.specs.Places.{bands_at, weights_at}
-use Rattle.search.specs.Stored.{Held, Looked, grown, no_place, no_row, columns_in, band_of, column_of, weight_of, last_weight}
+use Rattle.search.specs.Stored.{Held, Looked, grown, no_place, no_row, columns_in, band_of, column_of, last_weight}
 use Rattle.search.proofs.Lists.{choose-by, in_at, length-numbers, get_or_tabled}
 use Rattle.finder.specs.View.{place_seen, bank_seen, held_seen, rows_seen, made_of, candidate_seen}
 use Rattle.finder.specs.declared.bank.Candidate.{Candidate}
@@ -30,23 +27,8 @@ module _ {A B : Type 0} (f : A → B) (xs : List A) (n : ℕ) where
   pub front_at : (i : ℕ) (d : A) (e : B) → i < n → n ≤ length xs → get_or (map f (take n xs)) i e ≡ f (get_or xs i d)
   front_at i d e l k = let h = length-take-le n xs k in get_or-map f (take n xs) i d e (omega arith) ∙ ap f (get_or-take n xs i d l)
 
-  pub front-past : (i : ℕ) (e : B) → n ≤ i → n ≤ length xs → get_or (map f (take n xs)) i e ≡ e
-  front-past i e l k = let h = length-take-le n xs k in let g = length-map (take n xs) f in get_or_past (map f (take n xs)) i e (omega arith)
-
   pub front_length : n ≤ length xs → length (map f (take n xs)) ≡ n
   front_length k = length-map (take n xs) f ∙ length-take-le n xs k
-
-abbrev All15 : List ℕ → Type 0
-All15 [] = Unit {0}
-All15 (x ∷ xs) = (x ≡ 15) × All15 xs
-
-same15 : (xs : List ℕ) (j : ℕ) → All15 xs → get_or xs j 15 ≡ 15
-same15 [] j a = refl
-same15 (x ∷ xs) zero a = a.0
-same15 (x ∷ xs) (suc j) a = same15 xs j a.1
-
-pub marks-at : (j : ℕ) → ◌≡◌ {A = ℕ} (get_or (15 ∷ 15 ∷ 15 ∷ 15 ∷ 15 ∷ 15 ∷ 15 ∷ 15 ∷ 15 ∷ 15 ∷ 15 ∷ 15 ∷ 15 ∷ 15 ∷ 15 ∷ 15 ∷ []) j 15) 15
-marks-at j = same15 (15 ∷ 15 ∷ 15 ∷ 15 ∷ 15 ∷ 15 ∷ 15 ∷ 15 ∷ 15 ∷ 15 ∷ 15 ∷ 15 ∷ 15 ∷ 15 ∷ 15 ∷ 15 ∷ []) j (refl, (refl, (refl, (refl, (refl, (refl, (refl, (refl, (refl, (refl, (refl, (refl, (refl, (refl, (refl, (refl, tt))))))))))))))))
 
 module _ (m : SetMeaning) (n : ℕ) where
   pub seen_length : (b : Bank) → length (bank_seen m n b) ≡ b.places.count
@@ -150,12 +132,6 @@ bands_two ps j (suc zero) x y l = refl
 bands_two ps j (suc (suc zero)) x y l = refl
 bands_two ps j (suc (suc (suc a))) x y l = absurd (omega arith)
 
-pub weights_two : (ps : List places.Place) (a x y : ℕ) → a ≤ 2 → weights_at ps no_place (take a (x ∷ y ∷ [])) ≡ take a ((get_or ps x no_place).weight ∷ (get_or ps y no_place).weight ∷ [])
-weights_two ps zero x y l = refl
-weights_two ps (suc zero) x y l = refl
-weights_two ps (suc (suc zero)) x y l = refl
-weights_two ps (suc (suc (suc a))) x y l = absurd (omega arith)
-
 two_items : (xs : List ℕ) → length xs ≡ 2 → get_or xs 0 0 ∷ get_or xs 1 0 ∷ [] ≡ xs
 two_items [] e = absurd (omega arith)
 two_items (x ∷ []) e = absurd (omega arith)
@@ -185,12 +161,6 @@ module _ (E : Setting) (s : Sheet) (ps : List places.Place) (r : List ℕ) (long
       column-by (places.of_operator op (take (E.set.arity op) (x ∷ y ∷ [])))
       (λ j l. at j l ∙ ap₂ (λ u v. E.set.band op (take (E.set.arity op) (u ∷ v ∷ []))) (ae j l) (be j l) ∙ ap (E.set.band op) (sym (bands_two ps j (E.set.arity op) x y narrow)))
       ∙ ap (column_of E (rows_seen s) ps) (operator_seen E.set op t e)
-
-pub weight_two : (E : Setting) (ps : List places.Place) (op : ℕ) (t : Candidate) → t.top ≡ Operator op → E.set.arity op ≤ 2 → (u v : Weight) (n : ℕ) → n ≡ E.set.arity op → u.value ≡ (get_or ps (get_or t.args 0 0) no_place).weight → v.value ≡ (get_or ps (get_or t.args 1 0) no_place).weight →
-    E.measure.operator op (values (take n (u ∷ v ∷ []))) ≡ weight_of E ps (candidate_seen E.set t)
-weight_two E ps op t e narrow u v n ne ue ve =
-    ap (E.measure.operator op) (values_take n (u ∷ v ∷ []) ∙ ap (λ n. take n (u.value ∷ v.value ∷ [])) ne ∙ ap₂ (λ a b. take (E.set.arity op) (a ∷ b ∷ [])) ue ve ∙ sym (weights_two ps (E.set.arity op) (get_or t.args 0 0) (get_or t.args 1 0) narrow))
-    ∙ ap (weight_of E ps) (operator_seen E.set op t e)
 
 -- ── the last place ──
 

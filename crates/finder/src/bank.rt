@@ -28,6 +28,7 @@ impl Column {
         requires can { (j : ℕ) → j < n → F.pre band j }
         ensures { (j : ℕ) → j < n → F.post band j (slice_index_or result.bands j 15) }
     {
+        // by index: in `array::from_fn` the rule would be called by a closure, and so have to be callable at every number
         let mut bands = [15; 16];
         for j in 0..n {
             bands[j] = band(j);

@@ -56,6 +56,7 @@ impl<S: OperatorSet, M: Measure> Problem<S, M> {
     fn build_operators(&self, bank: &mut Bank, weight: u32, places: usize) -> Option<Candidate>
         ensures { Builds (setting (S.OperatorSet.meaning self.now.set) (M.Measure.meaning self.now.measure) self.now.sheet) (rows_seen self.now.sheet) weight (held_seen (S.OperatorSet.meaning self.now.set) self.now.sheet.rows.count bank.old) (up_from (block (S.OperatorSet.meaning self.now.set).arity places) (S.OperatorSet.meaning self.now.set).count 0) (option_seen (S.OperatorSet.meaning self.now.set) result) (held_seen (S.OperatorSet.meaning self.now.set) self.now.sheet.rows.count bank.new) }
     {
+        // labelled loops are a rule of the project at this place
         let mut found = None;
         'operators: for op in 0..self.set.count() {
             let arity = self.set.arity(op);

@@ -27,7 +27,7 @@ impl Bank {
         }
     }
 
-    // The weight at the last place, 0 where there is none.
+    // The weight at the last place, 0 where there is none: 0 and no None, since it is below every weight.
     pub(crate) fn last(&self) -> u32
         ensures { (m : SetMeaning) (n : ℕ) → result ≡ last_weight (bank_seen m n self.now) }
     {

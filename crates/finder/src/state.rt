@@ -8,6 +8,7 @@ use std::fmt;
 #[derive(Clone, Copy)]
 pub enum State {
     Open,
+    // a pair of plain numbers here and in the answer, and a case of its own for a settled sheet below, are rules of the project
     Found(Candidate, (u32, usize)),
     None,
     Full,

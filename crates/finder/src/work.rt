@@ -10,7 +10,8 @@ use measures::weight::Weight;
 use operators::set::OperatorSet;
 
 impl<S: OperatorSet, M: Measure> Problem<S, M> {
-    // The column of a candidate.
+    // The column of a candidate. Bank and candidate come apart in this and the other methods: the building changes the bank while it
+    // goes through candidates, so a struct that lends both could not stand over it.
     pub(crate) fn column_of(&self, bank: &Bank, candidate: Candidate) -> Column
         ensures { take self.now.sheet.rows.count result.bands ≡ column_of (setting (S.OperatorSet.meaning self.now.set) (M.Measure.meaning self.now.measure) self.now.sheet) (rows_seen self.now.sheet) (bank_seen (S.OperatorSet.meaning self.now.set) self.now.sheet.rows.count bank.now) (candidate_seen (S.OperatorSet.meaning self.now.set) candidate) }
     {

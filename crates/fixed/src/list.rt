@@ -2,6 +2,7 @@ ghost use Rattle.std.specs.Prelude.{◌≡◌, ◌≤◌, length};
 
 use std::alloc::AllocError;
 
+// Not the library's `ArrayVec`, which is not `Copy`: formulas, books and laws are copied.
 // At most N values, the first `count` of the table. What stands behind them means nothing.
 pub struct FixedList<T, const N: usize> {
     pub table: [T; N],

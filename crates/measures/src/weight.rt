@@ -4,6 +4,7 @@ ghost use Rattle.std.specs.Prelude.{◌≡◌, ◌+◌, ◌≤◌, min, max, if�
 const BEYOND: u32 = 1_000_001;
 
 // A weight of 1 to 1,000,000, or beyond, which is greater.
+// One number and no enum: with beyond greater than all others, order, maximum and sum are those of the number.
 #[derive(Clone, Copy, PartialEq, Eq, PartialOrd, Ord)]
 pub struct Weight {
     value: u32,
@@ -33,7 +34,7 @@ impl Weight {
         }
     }
 
-    // The sum, or beyond where that is past 1,000,000.
+    // The sum, or beyond where that is past 1,000,000. No `+`, since it stops there.
     pub fn plus(self, other: Weight) -> Weight
         ensures { result.value ≡ min (self.value + other.value) 1000001 }
     {

@@ -1,7 +1,7 @@
 ghost use Rattle.std.specs.Prelude.{◌≡◌, ◌<◌, ◌≤◌};
 ghost use Rattle.operators.specs.Bands.{mark, argument, SetMeaning, SetLaws};
 
-// The band for no reading.
+// The band for no reading. A number among the bands and no None: in every row, reading, column and table it is a byte.
 pub const MARK: u8 = 15;
 
 // A set of operators on bands. Asking it changes nothing and is refused nothing.

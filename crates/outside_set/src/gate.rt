@@ -25,6 +25,7 @@ impl OperatorSet for Gate {
         1
     }
 
+    // by number here and below: an enum of one operator would say no more
     fn arity(&self, op: u8) -> u8 {
         match op {
             0 => 2,

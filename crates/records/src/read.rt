@@ -85,7 +85,8 @@ fn all_fit(arity: u8, i: usize, step: Step) -> bool
     fits(0 < arity, i, first) && fits(1 < arity, i, second)
 }
 
-// Refuses a step that is not lawful as step `i`.
+// Refuses a step that is not lawful as step `i`. Set and channel count come apart, here and in what reads records: a law and a finder
+// hold them apart, so a struct of both would be made at each call and taken apart again.
 fn check_step<S: OperatorSet>(
     step: Step,
     i: usize,
@@ -114,6 +115,7 @@ fn read_steps<S: OperatorSet>(
 {
     let record = Record::sized(bytes)?;
     let mut steps = Steps::empty();
+    // by number, which is the place of a refusal
     for i in 0..record.count {
         let step = record.step(i);
         check_step(step, i, set, channels)?;

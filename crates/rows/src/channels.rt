@@ -4,7 +4,8 @@ ghost use Rattle.rows.specs.Bounds.{channels_refusal};
 
 use refusals::sheet::SheetRefusal;
 
-// How many channels a sheet has, at most eight.
+// How many channels a sheet has, at most eight. A type of its own beside `Limit`: the two differ in range, number type and refusal,
+// and one over all three would be longer than both.
 #[derive(Clone, Copy)]
 pub struct ChannelCount {
     value: u8,
@@ -12,6 +13,7 @@ pub struct ChannelCount {
 }
 
 impl ChannelCount {
+    // By `new`, here and at `Limit`, and no `TryFrom`: its two clauses stand on a method only.
     pub fn new(n: usize) -> Result<ChannelCount, SheetRefusal>
         ensures refused { refused_by sheet_refusal result ≡ channels_refusal n }
         ensures value { IfOk result (λ c. c.value ≡ n) }

@@ -63,6 +63,7 @@ fn wrong_arity(book: &[u8], p: usize) -> bool
 fn used(arity: u8, place: usize) -> bool
     ensures { result ≡ is_used arity place }
 {
+    // an arity is a number and no kind: how many arguments there are
     match arity {
         0 => place < 1,
         1 => place < BANDS,
@@ -92,6 +93,8 @@ fn check_bytes(book: &[u8]) -> Result<(), BookRefusal>
     requires { length book.now ≡ book_length (count_of book.now) }
     ensures { refused_by refusal_of result ≡ bytes_refusal book.now }
 {
+    // thrice the same but for the rule and the case: a function over the rule would call it in a closure of its own, which then has
+    // to be callable at every number, where the rules need a place of the book
     if let Some(p) = (0..book.len()).find(|p| wrong_name(book, *p)) {
         return Err(BookRefusal::Name(p));
     }

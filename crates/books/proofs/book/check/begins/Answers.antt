@@ -1,7 +1,6 @@
 use Rattle.std.proofs.Common.{arith}
 use Rattle.std.proofs.lemmas.List.Sums.{prefix_len-le-length}
 use Rattle.operators.specs.Names.{letter}
-use Rattle.books.specs.Spellings.{begun}
 use Rattle.books.proofs.book.check.begins.Goals as goal
 
 pub slice_bounds-spaces_only-count : goal.slice_bounds-spaces_only-count

@@ -1,8 +1,10 @@
 -- The size of a step's text, by its arity.
-use Rattle.std.proofs.Common.{◌≡◌, ℕ, ◌+◌, ◌^◌, ◌<◌, ◌≤◌, ◌≢◌, cond, List, [], ◌∷◌, length, get_or, set, take, Some, None, Option, sym, refl, ap, ◌∙◌, subst, ⊎_elim, arith, length-append, length-take-le, below_more, ltb, lt-ltb, le-ltb}
-use Rattle.std.proofs.lemmas.List.{get_or-set_same, get_or-set_other, get_or-take, get_or_past}
+use Rattle.std.proofs.Common.{◌≡◌, ℕ, ◌+◌, ◌^◌, ◌<◌, ◌≤◌, cond, List, [], ◌∷◌, ◌++◌, length, get_or, Some, None, Option, sym, refl, ap, ◌∙◌, subst, ⊎_elim, arith, length-append, ltb, lt-ltb, le-ltb}
+use Rattle.std.proofs.lemmas.List.{get_or_past}
 use Rattle.std.specs.List.{slice_get}
-use Rattle.std.proofs.lemmas.Bool.{cases_lt}
+use Rattle.std.proofs.lemmas.Bool.{cases_lt, cases_eq}
+use Rattle.std.proofs.lemmas.List.{get_or_append_left}
+use Rattle.std.proofs.Math.Seq.{get_or-append_seam}
 use Rattle.std.proofs.lemmas.Option.{cond_some, slice_get_within, get_or_from_slice_get}
 use Rattle.printing.specs.declared.pieces.Piece.{Piece}
 use Rattle.printing.specs.Formulas.{Formula, over, nil, cons, printed, blank, at, Denotes, counted, added, Sized, Sizes}
@@ -110,18 +112,14 @@ argument ps x r sizes before is = record {
   later = λ above. is ∙ get_or_past sizes x None above;
 }
 
--- the first entries alone
-pub sizes_before : (ps : List Piece) (k : ℕ) (sizes : List (Option ℕ)) → k ≤ length sizes → Sizes ps k sizes → Sizes ps (length (take k sizes)) (take k sizes)
-sizes_before ps k sizes inside before j h =
-    let below : j < k = omega (arith, length-take-le k sizes inside) in
-    subst (Sized ps j) (sym (get_or-take k sizes j None below)) (before j below)
-
 -- one more entry
-pub sizes_more : (ps : List Piece) (k : ℕ) (r : Option ℕ) (sizes : List (Option ℕ)) → k < length sizes → Sizes ps k sizes → Sized ps k r → Sizes ps (k + 1) (set sizes k r)
-sizes_more ps k r sizes inside before here =
-    below_more (λ j. Sized ps j (get_or (set sizes k r) j None)) k
-    (λ j h. let ne : j ≢ k = omega arith in subst (Sized ps j) (sym (get_or-set_other sizes k j r None ne)) (before j h))
-    (subst (Sized ps k) (sym (get_or-set_same sizes k r None inside)) here)
+pub sizes_more : (ps : List Piece) (xs : List (Option ℕ)) (r : Option ℕ) → Sizes ps (length xs) xs → Sized ps (length xs) r → Sizes ps (length (xs ++ r ∷ [])) (xs ++ r ∷ [])
+sizes_more ps xs r before here j h =
+    let l = length-append xs (r ∷ []) in
+    ⊎_elim
+    (λ (same : j ≡ length xs). subst (λ k. Sized ps k (get_or (xs ++ r ∷ []) k None)) (sym same) (subst (Sized ps (length xs)) (sym (get_or-append_seam xs r [] None)) here))
+    (λ other. let k : j < length xs = omega arith in subst (Sized ps j) (sym (get_or_append_left xs (r ∷ []) None j k)) (before j k))
+    (cases_eq j (length xs))
 
 -- p is the step behind those of the sizes
 module _ (ps : List Piece) (p : Piece) (sizes : List (Option ℕ)) (here : slice_get ps (length sizes) ≡ Some p) where

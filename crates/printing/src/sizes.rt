@@ -1,9 +1,11 @@
 ghost use Rattle.std.specs.Prelude.{◌≡◌, ◌+◌, ◌≤◌, List, Some, None, length, slice_index_or};
 ghost use Rattle.std.specs.List.{slice_get};
+ghost use Rattle.fixed.specs.Listed.{listed};
 ghost use Rattle.printing.specs.Formulas.{added, Sized, Sizes};
 ghost use Rattle.printing.specs.declared.pieces.Piece.{Piece};
 
 use crate::pieces::Piece;
+use fixed::list::FixedList;
 use formulas::steps::MOST_STEPS;
 
 // The length of the text of an argument, or none where it is no earlier step or has no length.
@@ -39,14 +41,16 @@ fn step_size(piece: &Piece, before: &[Option<usize>]) -> Option<usize>
 
 // The lengths of the texts of all steps, each worked out once from those before it. A step that stands for no formula, or whose
 // text is too long to count, has none.
-pub(crate) fn text_sizes(pieces: &[Piece]) -> [Option<usize>; MOST_STEPS]
+pub(crate) fn text_sizes(pieces: &[Piece]) -> FixedList<Option<usize>, MOST_STEPS>
     requires { length pieces.now ≤ 513 }
-    ensures { Sizes pieces.now (length pieces.now) result }
+    ensures long { length (listed result) ≡ length pieces.now }
+    ensures sizes { Sizes pieces.now (length pieces.now) (listed result) }
 {
-    let mut sizes = [None; MOST_STEPS];
-    // by index, since each entry is worked out from those before it, in fixed memory
-    for (at, piece) in pieces.iter().enumerate() {
-        sizes[at] = step_size(piece, &sizes[..at]);
+    let mut sizes = FixedList::empty();
+    for piece in pieces {
+        let size = step_size(piece, sizes.as_slice());
+        // there is room for 513
+        let _ = sizes.push(size);
     }
     sizes
 }

@@ -49,7 +49,8 @@ pub fn print(pieces: &[Piece], buffer: &mut [u8]) -> Result<usize, FirmwareRefus
     if count > MOST_STEPS {
         return Err(FirmwareRefusal::Room);
     }
-    let size = text_sizes(pieces)[count - 1].ok_or(FirmwareRefusal::Room)?;
+    let sizes = text_sizes(pieces);
+    let size = sizes.as_slice()[count - 1].ok_or(FirmwareRefusal::Room)?;
     if size > buffer.len() {
         return Err(FirmwareRefusal::Room);
     }

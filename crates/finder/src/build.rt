@@ -84,6 +84,7 @@ impl<S: OperatorSet, M: Measure> Problem<S, M> {
     {
         let places = bank.places.len();
         bank.over = false;
+        // by `or_else` the operators would take the bank in a closure; that was tried, and its proof did not close
         match self.build_channels(bank, weight) {
             Some(candidate) => Some(candidate),
             None => self.build_operators(bank, weight, places),

@@ -55,8 +55,8 @@ impl<S: OperatorSet, M: Measure> Problem<S, M> {
             };
             best = self.lowered(bank, last, best, candidate);
         }
-        // here and in the building of a level: an iterator over the candidates would count channels, operators and places in
-        // fields of its own, where these loops count nothing by hand
+        // the same loops as in the building of a level, whose labelled ones are a rule of the project: an iterator over the
+        // candidates would be no plainer, as it would count channels, operators and places in fields of its own
         let places = bank.places.len();
         for op in 0..self.set.count() {
             let arity = self.set.arity(op);

@@ -14,6 +14,7 @@ use Rattle.finder.specs.declared.sheet.Sheet.{Sheet}
 use Rattle.finder.specs.declared.bank.Candidate.{Candidate}
 use Rattle.finder.specs.declared.bank.Place.{Place}
 use Rattle.finder.specs.declared.bank.Bank.{Bank}
+use Rattle.finder.specs.declared.problem.Problem.{Problem}
 
 abbrev pub rows_seen : Sheet → List StandingRow
 rows_seen s = map (row_seen s.channels.value) (listed s.rows)
@@ -38,6 +39,22 @@ held_seen m n b = record { places = bank_seen m n b; over = b.over }
 
 abbrev pub setting : SetMeaning → MeasureMeaning → Sheet → Setting
 setting m w s = record { set = m; measure = w; channels = s.channels.value }
+
+-- the same of a problem, by what its set and its measure mean
+abbrev pub setting_of : {S M : Type 0} → (S → SetMeaning) → (M → MeasureMeaning) → Problem S M → Setting
+setting_of set measure p = setting (set p.set) (measure p.measure) p.sheet
+
+abbrev pub rows_of : {S M : Type 0} → Problem S M → List StandingRow
+rows_of p = rows_seen p.sheet
+
+abbrev pub bank_of : {S M : Type 0} → (S → SetMeaning) → Problem S M → Bank → List places.Place
+bank_of set p b = bank_seen (set p.set) p.sheet.rows.count b
+
+abbrev pub held_of : {S M : Type 0} → (S → SetMeaning) → Problem S M → Bank → Held
+held_of set p b = held_seen (set p.set) p.sheet.rows.count b
+
+abbrev pub candidate_of : {S M : Type 0} → (S → SetMeaning) → Problem S M → Candidate → places.Candidate
+candidate_of set p c = candidate_seen (set p.set) c
 
 abbrev pub option_seen : SetMeaning → Option Candidate → Option places.Candidate
 option_seen m (Some c) = Some (candidate_seen m c)

@@ -1,7 +1,7 @@
 ghost use Rattle.std.specs.Prelude.{◌≡◌, ℕ, ◌<◌, ◌≤◌};
 ghost use Rattle.search.specs.Machine.{Move, advance as advancing};
 ghost use Rattle.finder.specs.Whole.{whole, finder_seen, finder_setting, result_seen, ReadsAs, LevelBy};
-ghost use Rattle.finder.specs.View.{setting};
+ghost use Rattle.finder.specs.View.{setting_of};
 
 use crate::bank::Bank;
 use crate::problem::Problem;
@@ -57,7 +57,7 @@ impl Search {
         &mut self,
         problem: &Problem<S, M>,
     ) -> Result<Answer, FirmwareRefusal>
-        ensures { ◌≡◌ {A = Move} (record { answer = result_seen result; after = whole (S.OperatorSet.meaning problem.now.set) problem.now.sheet self.new.bank self.new.state }) (advancing (setting (S.OperatorSet.meaning problem.now.set) (M.Measure.meaning problem.now.measure) problem.now.sheet) (whole (S.OperatorSet.meaning problem.now.set) problem.now.sheet self.old.bank self.old.state)) }
+        ensures { ◌≡◌ {A = Move} (record { answer = result_seen result; after = whole (S.OperatorSet.meaning problem.now.set) problem.now.sheet self.new.bank self.new.state }) (advancing (setting_of S.OperatorSet.meaning M.Measure.meaning problem.now) (whole (S.OperatorSet.meaning problem.now.set) problem.now.sheet self.old.bank self.old.state)) }
     {
         let result = self.next_result(problem);
         match (self.state, result) {

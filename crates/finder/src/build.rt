@@ -1,7 +1,7 @@
 ghost use Rattle.std.specs.Prelude.{◌≡◌, ℕ, ◌<◌, ◌≤◌};
 ghost use Rattle.search.specs.Stored.{offered, built};
 ghost use Rattle.search.specs.Order.{up_from, channel, block};
-ghost use Rattle.finder.specs.View.{rows_seen, bank_seen, held_seen, candidate_seen, option_seen, setting, Builds};
+ghost use Rattle.finder.specs.View.{option_seen, Builds, setting_of, rows_of, bank_of, held_of, candidate_of};
 
 use crate::bank::{Bank, Candidate, Place};
 use crate::level::turns;
@@ -13,7 +13,7 @@ use operators::set::OperatorSet;
 impl<S: OperatorSet, M: Measure> Problem<S, M> {
     // Whether the candidate fits; one of the weight that does not is kept, if its column is new.
     fn offer(&self, bank: &mut Bank, weight: u32, candidate: Candidate) -> bool
-        ensures { (result, held_seen (S.OperatorSet.meaning self.now.set) self.now.sheet.rows.count bank.new) ≡ offered (setting (S.OperatorSet.meaning self.now.set) (M.Measure.meaning self.now.measure) self.now.sheet) (rows_seen self.now.sheet) weight (held_seen (S.OperatorSet.meaning self.now.set) self.now.sheet.rows.count bank.old) (candidate_seen (S.OperatorSet.meaning self.now.set) candidate) }
+        ensures { (result, held_of S.OperatorSet.meaning self.now bank.new) ≡ offered (setting_of S.OperatorSet.meaning M.Measure.meaning self.now) (rows_of self.now) weight (held_of S.OperatorSet.meaning self.now bank.old) (candidate_of S.OperatorSet.meaning self.now candidate) }
     {
         let own = self.weight_of(bank, candidate);
         if own.value() != weight {
@@ -36,7 +36,7 @@ impl<S: OperatorSet, M: Measure> Problem<S, M> {
 
     // The first channel that fits, by number; the bank takes the new columns of those before it.
     fn build_channels(&self, bank: &mut Bank, weight: u32) -> Option<Candidate>
-        ensures { Builds (setting (S.OperatorSet.meaning self.now.set) (M.Measure.meaning self.now.measure) self.now.sheet) (rows_seen self.now.sheet) weight (held_seen (S.OperatorSet.meaning self.now.set) self.now.sheet.rows.count bank.old) (up_from channel self.now.sheet.channels.value 0) (option_seen (S.OperatorSet.meaning self.now.set) result) (held_seen (S.OperatorSet.meaning self.now.set) self.now.sheet.rows.count bank.new) }
+        ensures { Builds (setting_of S.OperatorSet.meaning M.Measure.meaning self.now) (rows_of self.now) weight (held_of S.OperatorSet.meaning self.now bank.old) (up_from channel self.now.sheet.channels.value 0) (option_seen (S.OperatorSet.meaning self.now.set) result) (held_of S.OperatorSet.meaning self.now bank.new) }
     {
         let channels = self.sheet.channels.get();
         for channel in 0..channels {
@@ -54,7 +54,7 @@ impl<S: OperatorSet, M: Measure> Problem<S, M> {
     // The first operator that fits, over the first `places` places in build order; the bank takes the new columns of those
     // before it.
     fn build_operators(&self, bank: &mut Bank, weight: u32, places: usize) -> Option<Candidate>
-        ensures { Builds (setting (S.OperatorSet.meaning self.now.set) (M.Measure.meaning self.now.measure) self.now.sheet) (rows_seen self.now.sheet) weight (held_seen (S.OperatorSet.meaning self.now.set) self.now.sheet.rows.count bank.old) (up_from (block (S.OperatorSet.meaning self.now.set).arity places) (S.OperatorSet.meaning self.now.set).count 0) (option_seen (S.OperatorSet.meaning self.now.set) result) (held_seen (S.OperatorSet.meaning self.now.set) self.now.sheet.rows.count bank.new) }
+        ensures { Builds (setting_of S.OperatorSet.meaning M.Measure.meaning self.now) (rows_of self.now) weight (held_of S.OperatorSet.meaning self.now bank.old) (up_from (block (S.OperatorSet.meaning self.now.set).arity places) (S.OperatorSet.meaning self.now.set).count 0) (option_seen (S.OperatorSet.meaning self.now.set) result) (held_of S.OperatorSet.meaning self.now bank.new) }
     {
         // labelled loops are a rule of the project at this place
         let mut found = None;
@@ -80,7 +80,7 @@ impl<S: OperatorSet, M: Measure> Problem<S, M> {
 
     // The first candidate of the weight that fits, in build order; the bank takes the new columns of those before it.
     pub(crate) fn build(&self, bank: &mut Bank, weight: u32) -> Option<Candidate>
-        ensures { (option_seen (S.OperatorSet.meaning self.now.set) result, held_seen (S.OperatorSet.meaning self.now.set) self.now.sheet.rows.count bank.new) ≡ built (setting (S.OperatorSet.meaning self.now.set) (M.Measure.meaning self.now.measure) self.now.sheet) (rows_seen self.now.sheet) weight (bank_seen (S.OperatorSet.meaning self.now.set) self.now.sheet.rows.count bank.old) }
+        ensures { (option_seen (S.OperatorSet.meaning self.now.set) result, held_of S.OperatorSet.meaning self.now bank.new) ≡ built (setting_of S.OperatorSet.meaning M.Measure.meaning self.now) (rows_of self.now) weight (bank_of S.OperatorSet.meaning self.now bank.old) }
     {
         let places = bank.places.len();
         bank.over = false;

@@ -1,6 +1,6 @@
 ghost use Rattle.std.specs.Prelude.{◌≡◌};
 ghost use Rattle.search.specs.Marks.{renumbered, steps_of};
-ghost use Rattle.finder.specs.View.{bank_seen, candidate_seen};
+ghost use Rattle.finder.specs.View.{bank_of, candidate_of};
 ghost use Rattle.finder.specs.Whole.{step_seen, steps_seen, FormulaOf};
 
 use crate::bank::{Bank, Candidate};
@@ -14,7 +14,7 @@ use operators::set::OperatorSet;
 impl<S: OperatorSet, M: Measure> Problem<S, M> {
     // The candidate as a step, with step numbers for places; numbers past the arity are 0.
     fn step(&self, marks: &Marks, candidate: Candidate) -> Step
-        ensures { step_seen (S.OperatorSet.meaning self.now.set) result ≡ renumbered marks.now.used (candidate_seen (S.OperatorSet.meaning self.now.set) candidate) }
+        ensures { step_seen (S.OperatorSet.meaning self.now.set) result ≡ renumbered marks.now.used (candidate_of S.OperatorSet.meaning self.now candidate) }
     {
         let top = candidate.top;
         let [first, second] = candidate.args;
@@ -28,7 +28,7 @@ impl<S: OperatorSet, M: Measure> Problem<S, M> {
 
     // The steps of the formula of the candidate: the places that it uses, in order, and itself last.
     fn steps_of(&self, bank: &Bank, candidate: Candidate) -> Steps
-        ensures { steps_seen (S.OperatorSet.meaning self.now.set) result ≡ steps_of (bank_seen (S.OperatorSet.meaning self.now.set) self.now.sheet.rows.count bank.now) (candidate_seen (S.OperatorSet.meaning self.now.set) candidate) }
+        ensures { steps_seen (S.OperatorSet.meaning self.now.set) result ≡ steps_of (bank_of S.OperatorSet.meaning self.now bank.now) (candidate_of S.OperatorSet.meaning self.now candidate) }
     {
         let marks = self.marks_of(bank, candidate);
         let mut steps = Steps::empty();

@@ -1,7 +1,7 @@
 ghost use Rattle.std.specs.Prelude.{◌≡◌, ℕ, ◌<◌, ◌≤◌};
 ghost use Rattle.search.specs.Stored.{lower, level_at, last_weight};
 ghost use Rattle.search.specs.Order.{span};
-ghost use Rattle.finder.specs.View.{rows_seen, bank_seen, candidate_seen, setting};
+ghost use Rattle.finder.specs.View.{setting_of, rows_of, bank_of, candidate_of};
 
 use crate::bank::{Bank, Candidate};
 use crate::problem::Problem;
@@ -21,8 +21,8 @@ impl<S: OperatorSet, M: Measure> Problem<S, M> {
     // The weight of the candidate, if it is lighter than `best`, heavier than the last place and its column is not in the bank;
     // else `best`.
     fn lowered(&self, bank: &Bank, last: u32, best: Weight, candidate: Candidate) -> Weight
-        requires { last ≡ last_weight (bank_seen (S.OperatorSet.meaning self.now.set) self.now.sheet.rows.count bank.now) }
-        ensures { result.value ≡ lower (setting (S.OperatorSet.meaning self.now.set) (M.Measure.meaning self.now.measure) self.now.sheet) (rows_seen self.now.sheet) (bank_seen (S.OperatorSet.meaning self.now.set) self.now.sheet.rows.count bank.now) best.value (candidate_seen (S.OperatorSet.meaning self.now.set) candidate) }
+        requires { last ≡ last_weight (bank_of S.OperatorSet.meaning self.now bank.now) }
+        ensures { result.value ≡ lower (setting_of S.OperatorSet.meaning M.Measure.meaning self.now) (rows_of self.now) (bank_of S.OperatorSet.meaning self.now bank.now) best.value (candidate_of S.OperatorSet.meaning self.now candidate) }
     {
         let own = self.weight_of(bank, candidate);
         let weight = own.value();
@@ -43,7 +43,7 @@ impl<S: OperatorSet, M: Measure> Problem<S, M> {
 
     // The least weight of a candidate whose column is not in the bank, beyond where there is none.
     pub(crate) fn level(&self, bank: &Bank) -> Weight
-        ensures { result.value ≡ level_at (setting (S.OperatorSet.meaning self.now.set) (M.Measure.meaning self.now.measure) self.now.sheet) (rows_seen self.now.sheet) (bank_seen (S.OperatorSet.meaning self.now.set) self.now.sheet.rows.count bank.now) }
+        ensures { result.value ≡ level_at (setting_of S.OperatorSet.meaning M.Measure.meaning self.now) (rows_of self.now) (bank_of S.OperatorSet.meaning self.now bank.now) }
     {
         let last = bank.last();
         let mut best = Weight::beyond();

@@ -1,6 +1,6 @@
 ghost use Rattle.std.specs.Prelude.{◌≡◌, ◌≤◌, true, false, filter, length, replicate, slice_set};
 ghost use Rattle.search.specs.Marks.{arguments_of, mark as marking, rank, steps_at, tally, used_marks};
-ghost use Rattle.finder.specs.View.{bank_seen, candidate_seen};
+ghost use Rattle.finder.specs.View.{bank_of, candidate_of};
 
 use crate::bank::{Bank, Candidate};
 use crate::problem::Problem;
@@ -55,7 +55,7 @@ impl Marks {
 impl<S: OperatorSet, M: Measure> Problem<S, M> {
     // Marks the places of the arguments.
     fn mark(&self, marks: &mut Marks, candidate: Candidate)
-        ensures { marks.new.used ≡ marking (arguments_of (candidate_seen (S.OperatorSet.meaning self.now.set) candidate)) marks.old.used }
+        ensures { marks.new.used ≡ marking (arguments_of (candidate_of S.OperatorSet.meaning self.now candidate)) marks.old.used }
     {
         let arity = candidate.top.arity(&self.set) as usize;
         for place in &candidate.args[..arity] {
@@ -65,7 +65,7 @@ impl<S: OperatorSet, M: Measure> Problem<S, M> {
 
     // The places that the formula of the candidate uses.
     pub(crate) fn marks_of(&self, bank: &Bank, candidate: Candidate) -> Marks
-        ensures { result.used ≡ used_marks (bank_seen (S.OperatorSet.meaning self.now.set) self.now.sheet.rows.count bank.now) (candidate_seen (S.OperatorSet.meaning self.now.set) candidate) }
+        ensures { result.used ≡ used_marks (bank_of S.OperatorSet.meaning self.now bank.now) (candidate_of S.OperatorSet.meaning self.now candidate) }
     {
         let mut marks = Marks::none();
         self.mark(&mut marks, candidate);
@@ -81,7 +81,7 @@ impl<S: OperatorSet, M: Measure> Problem<S, M> {
 
     // The weight, and how many different parts the formula of the candidate has, itself included.
     pub(crate) fn counted(&self, bank: &Bank, candidate: Candidate, weight: u32) -> (u32, usize)
-        ensures { result ≡ (weight, steps_at (bank_seen (S.OperatorSet.meaning self.now.set) self.now.sheet.rows.count bank.now) (candidate_seen (S.OperatorSet.meaning self.now.set) candidate)) }
+        ensures { result ≡ (weight, steps_at (bank_of S.OperatorSet.meaning self.now bank.now) (candidate_of S.OperatorSet.meaning self.now candidate)) }
     {
         (weight, self.marks_of(bank, candidate).count() + 1)
     }

@@ -1,6 +1,6 @@
 ghost use Rattle.std.specs.Prelude.{◌≡◌, ℕ, ◌<◌, ◌≤◌, [], ◌∷◌, get_or, take, slice_index_or};
 ghost use Rattle.search.specs.Stored.{column_of, weight_of, no_row};
-ghost use Rattle.finder.specs.View.{rows_seen, bank_seen, candidate_seen, setting};
+ghost use Rattle.finder.specs.View.{setting_of, rows_of, bank_of, candidate_of};
 
 use crate::bank::{Bank, Candidate, Column};
 use crate::problem::Problem;
@@ -13,7 +13,7 @@ impl<S: OperatorSet, M: Measure> Problem<S, M> {
     // The column of a candidate. Bank and candidate come apart in this and the other methods: the building changes the bank while it
     // goes through candidates, so a struct that lends both could not stand over it.
     pub(crate) fn column_of(&self, bank: &Bank, candidate: Candidate) -> Column
-        ensures { take self.now.sheet.rows.count result.bands ≡ column_of (setting (S.OperatorSet.meaning self.now.set) (M.Measure.meaning self.now.measure) self.now.sheet) (rows_seen self.now.sheet) (bank_seen (S.OperatorSet.meaning self.now.set) self.now.sheet.rows.count bank.now) (candidate_seen (S.OperatorSet.meaning self.now.set) candidate) }
+        ensures { take self.now.sheet.rows.count result.bands ≡ column_of (setting_of S.OperatorSet.meaning M.Measure.meaning self.now) (rows_of self.now) (bank_of S.OperatorSet.meaning self.now bank.now) (candidate_of S.OperatorSet.meaning self.now candidate) }
     {
         match candidate.top {
             Top::Channel(channel) => self.channel_column(channel),
@@ -26,7 +26,7 @@ impl<S: OperatorSet, M: Measure> Problem<S, M> {
     }
 
     fn channel_column(&self, channel: u8) -> Column
-        ensures { (j : ℕ) → j < self.now.sheet.rows.count → slice_index_or result.bands j 15 ≡ slice_index_or (get_or (rows_seen self.now.sheet) j no_row).bands channel 15 }
+        ensures { (j : ℕ) → j < self.now.sheet.rows.count → slice_index_or result.bands j 15 ≡ slice_index_or (get_or (rows_of self.now) j no_row).bands channel 15 }
     {
         Column::of(self.sheet.rows.len(), |j| self.sheet.band(j, channel))
     }
@@ -53,7 +53,7 @@ impl<S: OperatorSet, M: Measure> Problem<S, M> {
 
     // The weight of a candidate.
     pub(crate) fn weight_of(&self, bank: &Bank, candidate: Candidate) -> Weight
-        ensures { result.value ≡ weight_of (setting (S.OperatorSet.meaning self.now.set) (M.Measure.meaning self.now.measure) self.now.sheet) (bank_seen (S.OperatorSet.meaning self.now.set) self.now.sheet.rows.count bank.now) (candidate_seen (S.OperatorSet.meaning self.now.set) candidate) }
+        ensures { result.value ≡ weight_of (setting_of S.OperatorSet.meaning M.Measure.meaning self.now) (bank_of S.OperatorSet.meaning self.now bank.now) (candidate_of S.OperatorSet.meaning self.now candidate) }
     {
         match candidate.top {
             Top::Channel(channel) => self.measure.channel(channel),

@@ -3,3 +3,4 @@ pub mod Counts
 pub mod Listing
 pub mod Loops
 pub mod Seen
+pub mod Weighed

@@ -16,8 +16,9 @@ impl<S: OperatorSet, M: Measure> Problem<S, M> {
         ensures { ReadsAs (S.OperatorSet.meaning self.now.set) (M.Measure.meaning self.now.measure) self.now.sheet bank.old result bank.new }
     {
         let limit = self.sheet.limit.get();
-        let level = self.level(bank);
-        let weight = level.value();
+        let Some(weight) = self.level(bank).number() else {
+            return LevelResult::Nothing;
+        };
         if weight > limit {
             return LevelResult::Nothing;
         }

@@ -25,12 +25,10 @@ impl<S: OperatorSet, M: Measure> Problem<S, M> {
         ensures { result.value ≡ lower (setting_of S.OperatorSet.meaning M.Measure.meaning self.now) (rows_of self.now) (bank_of S.OperatorSet.meaning self.now bank.now) best.value (candidate_of S.OperatorSet.meaning self.now candidate) }
     {
         let own = self.weight_of(bank, candidate);
-        let weight = own.value();
-        let lowest = best.value();
-        if weight <= last {
+        if own.value() <= last {
             return best;
         }
-        if weight < lowest {
+        if own < best {
             let column = self.column_of(bank, candidate);
             match bank.place_of(&column, self.sheet.rows.len()) {
                 Some(_) => best,

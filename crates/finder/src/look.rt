@@ -11,23 +11,24 @@ impl Bank {
     pub(crate) fn column(&self, i: usize) -> Column
         ensures { (m : SetMeaning) (n j : ℕ) → j < n → slice_index_or result.bands j 15 ≡ slice_index_or (get_or (bank_seen m n self.now) i no_place).column j 15 }
     {
-        match self.places.as_slice().get(i) {
-            Some(place) => place.column,
-            None => Column { bands: [15; 16] },
-        }
+        self.places
+            .as_slice()
+            .get(i)
+            .map_or(Column { bands: [15; 16] }, |place| place.column)
     }
 
     // The weight at the place `i`, 1 where it is not filled.
     pub(crate) fn weight(&self, i: usize) -> Weight
         ensures { (m : SetMeaning) (n : ℕ) → result.value ≡ (get_or (bank_seen m n self.now) i no_place).weight }
     {
-        match self.places.as_slice().get(i) {
-            Some(place) => place.weight,
-            None => Weight::one(),
-        }
+        self.places
+            .as_slice()
+            .get(i)
+            .map_or(Weight::one(), |place| place.weight)
     }
 
-    // The weight at the last place, 0 where there is none: 0 and no None, since it is below every weight.
+    // The weight at the last place, 0 where there is none: 0 and no None, as
+    // the search over stored places has it. A match: through `map_or` its proof did not close.
     pub(crate) fn last(&self) -> u32
         ensures { (m : SetMeaning) (n : ℕ) → result ≡ last_weight (bank_seen m n self.now) }
     {

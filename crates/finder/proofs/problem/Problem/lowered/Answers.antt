@@ -1,4 +1,6 @@
-use Rattle.std.proofs.Common.{Some, None, sym, ◌∙◌, arith}
+use Rattle.std.proofs.Common.{Some, None, refl, sym, ◌∙◌, arith}
+use Rattle.std.proofs.lemmas.Map.Keys.{ge_from_not_lt}
+use Rattle.finder.proofs.Weighed.{lighter}
 use Rattle.finder.specs.View.{setting, rows_seen, bank_seen, candidate_seen}
 use Rattle.search.proofs.Offers.{known, unknown, lower-known, lower-new, lower_not, lower_last}
 use Rattle.finder.proofs.Seen.{looked_by}
@@ -20,22 +22,22 @@ returns-in-None g c =
     let E = setting m (g.M.Measure.meaning f.measure) f.sheet in
     let ps = bank_seen m f.sheet.rows.count c.args.bank.now in
     let t = candidate_seen m c.args.candidate in
-    sym c.value-weight.ensures ∙ lower-new E (rows_seen f.sheet) ps t c.args.best.value c.value-weight.result c.args.last (c.value-weight.ensures ∙ c.weight_of-own.ensures) c.requires c.if-weight-last.false (omega (arith, c.if-weight-lowest.true, c.value-lowest.ensures)) (unknown E (rows_seen f.sheet) ps t _ c.column_of-column.ensures (looked_by m c.args.bank.now c.column_of-column.result.bands None _ _ c.len.ensures.count (c.in-None.ensures m)))
+    sym c.value.ensures ∙ lower-new E (rows_seen f.sheet) ps t c.args.best.value c.value.result c.args.last (c.value.ensures ∙ c.weight_of-own.ensures) c.requires c.if-value-last.false (omega (arith, lighter c.weight_of-own.result.value c.args.best.value _ refl (sym c.lt.ensures ∙ c.if-lt.true), c.value.ensures)) (unknown E (rows_seen f.sheet) ps t _ c.column_of-column.ensures (looked_by m c.args.bank.now c.column_of-column.result.bands None _ _ c.len.ensures.count (c.in-None.ensures m)))
 
-pub returns-else-weight-lowest : goal.returns-else-weight-lowest
-returns-else-weight-lowest g c =
+pub returns-else-lt : goal.returns-else-lt
+returns-else-lt g c =
     let f = c.args.self.now in
     let m = g.S.OperatorSet.meaning f.set in
     let E = setting m (g.M.Measure.meaning f.measure) f.sheet in
     let ps = bank_seen m f.sheet.rows.count c.args.bank.now in
     let t = candidate_seen m c.args.candidate in
-    lower_not E (rows_seen f.sheet) ps t c.args.best.value c.value-weight.result (c.value-weight.ensures ∙ c.weight_of-own.ensures) (omega (arith, c.if-weight-lowest.false, c.value-lowest.ensures))
+    lower_not E (rows_seen f.sheet) ps t c.args.best.value c.value.result (c.value.ensures ∙ c.weight_of-own.ensures) (omega (arith, ge_from_not_lt c.weight_of-own.result.value c.args.best.value (sym c.lt.ensures ∙ c.if-lt.false), c.value.ensures))
 
-pub returns-then-weight-last : goal.returns-then-weight-last
-returns-then-weight-last g c =
+pub returns-then-value-last : goal.returns-then-value-last
+returns-then-value-last g c =
     let f = c.args.self.now in
     let m = g.S.OperatorSet.meaning f.set in
     let E = setting m (g.M.Measure.meaning f.measure) f.sheet in
     let ps = bank_seen m f.sheet.rows.count c.args.bank.now in
     let t = candidate_seen m c.args.candidate in
-    lower_last E (rows_seen f.sheet) ps t c.args.best.value c.value-weight.result c.args.last (c.value-weight.ensures ∙ c.weight_of-own.ensures) c.requires c.if-weight-last.true
+    lower_last E (rows_seen f.sheet) ps t c.args.best.value c.value.result c.args.last (c.value.ensures ∙ c.weight_of-own.ensures) c.requires c.if-value-last.true

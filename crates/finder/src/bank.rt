@@ -1,4 +1,5 @@
-ghost use Rattle.std.specs.Prelude.{◌≡◌, ℕ, ◌<◌, ◌≤◌, [], length, slice_index_or};
+ghost use Rattle.std.specs.Prelude.{◌≡◌, ℕ, ◌<◌, ◌≤◌, [], ◌∷◌, length, replicate, slice_index_or};
+ghost use Rattle.formulas.specs.declared.steps.Top.TheVariants.{Channel};
 ghost use Rattle.fixed.specs.Listed.{listed};
 
 use fixed::list::FixedList;
@@ -28,7 +29,7 @@ impl Column {
         requires can { (j : ℕ) → j < n → F.pre band j }
         ensures { (j : ℕ) → j < n → F.post band j (slice_index_or result.bands j 15) }
     {
-        // by index: in `array::from_fn` the rule would be called by a closure, and so have to be callable at every number
+        // by index: in `array::from_fn` the rule would be called by a closure of this function's own, at numbers past `n` too
         let mut bands = [15; 16];
         for j in 0..n {
             bands[j] = band(j);
@@ -55,6 +56,8 @@ pub struct Bank {
 
 // What stands where there is no place.
 impl Default for Place {
+    ghost is_default = { λ p. (p.made_of.top ≡ Channel 0) × (p.made_of.args ≡ 0 ∷ 0 ∷ []) × (p.column.bands ≡ replicate 16 15) × (p.weight.value ≡ 1) };
+
     fn default() -> Place {
         Place {
             made_of: Candidate {

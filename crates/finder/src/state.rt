@@ -1,3 +1,6 @@
+ghost use Rattle.std.specs.Prelude.{Some};
+ghost use Rattle.finder.specs.Printed.{answer_text};
+
 use crate::bank::{Bank, Candidate};
 use crate::problem::Problem;
 use measures::measure::Measure;
@@ -25,6 +28,8 @@ pub enum Answer {
 }
 
 impl fmt::Display for Answer {
+    ghost output = { λ a. Some (answer_text a) };
+
     fn fmt<W: fmt::Write>(&self, f: &mut fmt::Formatter<W>) -> fmt::Result {
         match *self {
             Answer::Level(weight, places) => write!(f, "level {weight} {places}"),

@@ -1,14 +1,15 @@
 -- The steps of a formula, one used place after the other.
-use Rattle.std.proofs.Common.{◌≡◌, ℕ, ◌+◌, ◌<◌, ◌≤◌, Bool, true, false, cond, ltb, List, [], ◌∷◌, ◌++◌, map, length, get_or, drop, sym, refl, ap, ◌∙◌, ap₂, append_assoc, append-nil, arith}
-use Rattle.std.proofs.lemmas.List.{drop_more, drop_all, length-append, map_push}
+use Rattle.std.proofs.Common.{rules, ◌≡◌, ℕ, ◌+◌, ◌<◌, ◌≤◌, Bool, true, false, cond, ltb, List, [], ◌∷◌, ◌++◌, map, length, sym, refl, ap, ◌∙◌, ap₂, append_assoc, append-nil, ◌⊎◌, inl, inr, arith}
+use Rattle.std.proofs.lemmas.List.{length-append, map_push}
 use Rattle.operators.specs.Bands.{SetMeaning}
 use Rattle.fixed.proofs.Lengths.{listed-length, pushed}
 use Rattle.formulas.specs.Steps.{Steps, listed}
 use Rattle.formulas.specs.declared.steps.Step.{Step}
 use Rattle.search.specs.Places as places
-use Rattle.search.specs.Stored.{no_place}
 use Rattle.search.specs.Marks.{renumbered, marked_steps}
+use Rattle.finder.specs.View.{place_seen}
 use Rattle.finder.specs.Whole.{step_seen, steps_seen}
+use Rattle.finder.specs.declared.bank.Place.{Place}
 
 -- one step more
 module _ (m : SetMeaning) (s t : Steps) (x : Step) (r : Bool) (room : s.count < 513) (is : r ≡ ltb (length (listed s)) 513) (e : listed t ≡ cond r (listed s ++ x ∷ []) (listed s)) where
@@ -18,22 +19,23 @@ module _ (m : SetMeaning) (s t : Steps) (x : Step) (r : Bool) (room : s.count < 
   pub pushed_seen : (y : places.Candidate) → step_seen m x ≡ y → steps_seen m t ≡ steps_seen m s ++ (y ∷ [])
   pushed_seen y se = ap (map (step_seen m)) (pushed s t x r is e room) ∙ map_push (step_seen m) (listed s) x ∙ ap (λ c. steps_seen m s ++ (c ∷ [])) se
 
--- the marked places from i on, by what stands at i
-module _ (u v : List Bool) (ps : List places.Place) (i : ℕ) (l : i < length v) (k : i < length ps) where
-  marked_from : marked_steps u (drop i v) (drop i ps) ≡ cond (get_or v i false) (renumbered u (get_or ps i no_place).top ∷ marked_steps u (drop (i + 1) v) (drop (i + 1) ps)) (marked_steps u (drop (i + 1) v) (drop (i + 1) ps))
-  marked_from = ap₂ (λ (a : List Bool) (b : List places.Place). marked_steps u a b) (drop_more v i false l) (drop_more ps i no_place k)
+-- the marked places to come, by the first of them
+module _ (m : SetMeaning) (n : ℕ) (u v v' : List Bool) (p : Place) (ps ps' : List Place) (xs : List places.Candidate) (at : ps ≡ p ∷ ps') where
+  pub put_one : v ≡ true ∷ v' → (xs ++ (renumbered u (place_seen m n p).top ∷ [])) ++ marked_steps u v' (map (place_seen m n) ps') ≡ xs ++ marked_steps u v (map (place_seen m n) ps)
+  put_one is =
+      append_assoc xs (renumbered u (place_seen m n p).top ∷ []) _
+      ∙ ap (λ ys. xs ++ ys) (sym (ap₂ (λ (a : List Bool) (b : List Place). marked_steps u a (map (place_seen m n) b)) is at))
 
-  pub marked_yes : get_or v i false ≡ true → (xs : List places.Candidate) → (xs ++ (renumbered u (get_or ps i no_place).top ∷ [])) ++ marked_steps u (drop (i + 1) v) (drop (i + 1) ps) ≡ xs ++ marked_steps u (drop i v) (drop i ps)
-  marked_yes is xs =
-      append_assoc xs (renumbered u (get_or ps i no_place).top ∷ []) _
-      ∙ ap (λ ys. xs ++ ys) (sym (marked_from ∙ ap (λ b. cond b (renumbered u (get_or ps i no_place).top ∷ marked_steps u (drop (i + 1) v) (drop (i + 1) ps)) (marked_steps u (drop (i + 1) v) (drop (i + 1) ps))) is))
-
-  pub marked_no : get_or v i false ≡ false → (xs : List places.Candidate) → xs ++ marked_steps u (drop (i + 1) v) (drop (i + 1) ps) ≡ xs ++ marked_steps u (drop i v) (drop i ps)
-  marked_no is xs = ap (λ ys. xs ++ ys) (sym (marked_from ∙ ap (λ b. cond b (renumbered u (get_or ps i no_place).top ∷ marked_steps u (drop (i + 1) v) (drop (i + 1) ps)) (marked_steps u (drop (i + 1) v) (drop (i + 1) ps))) is))
+  pub passed_one : v ≡ false ∷ v' → xs ++ marked_steps u v' (map (place_seen m n) ps') ≡ xs ++ marked_steps u v (map (place_seen m n) ps)
+  passed_one is = ap (λ ys. xs ++ ys) (sym (ap₂ (λ (a : List Bool) (b : List Place). marked_steps u a (map (place_seen m n) b)) is at))
 
 none_left : (u v : List Bool) → marked_steps u v [] ≡ []
 none_left u [] = refl
 none_left u (b ∷ v) = refl
 
-pub marked_end : (u v : List Bool) (ps : List places.Place) (i : ℕ) → length ps ≤ i → (xs : List places.Candidate) → xs ++ marked_steps u (drop i v) (drop i ps) ≡ xs
-marked_end u v ps i l xs = ap (λ ys. xs ++ ys) (ap (marked_steps u (drop i v)) (drop_all i ps l) ∙ none_left u (drop i v)) ∙ append-nil xs
+-- no place is to come, or no mark
+pub left_over : (m : SetMeaning) (n : ℕ) (u v : List Bool) (ps : List Place) (xs : List places.Candidate) → (length ps ≡ 0) ⊎ (length v ≡ 0) → xs ++ marked_steps u v (map (place_seen m n) ps) ≡ xs
+left_over m n u v [] xs e = ap (λ ys. xs ++ ys) (none_left u v) ∙ append-nil xs
+left_over m n u [] (p ∷ ps) xs e = append-nil xs
+left_over m n u (b ∷ v) (p ∷ ps) xs (inl e) = search rules
+left_over m n u (b ∷ v) (p ∷ ps) xs (inr e) = search rules

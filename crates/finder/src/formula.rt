@@ -33,8 +33,8 @@ impl<S: OperatorSet, M: Measure> Problem<S, M> {
         let marks = self.marks_of(bank, candidate);
         let mut steps = Steps::empty();
         // there is room for 512 places and the formula itself
-        for (i, place) in bank.places.as_slice().iter().enumerate() {
-            if marks.used[i] {
+        for (place, used) in bank.places.as_slice().iter().zip(&marks.used) {
+            if *used {
                 let _ = steps.push(self.step(&marks, place.made_of));
             }
         }

@@ -15,7 +15,8 @@ pub struct Candidate {
     ghost two: { length args ≡ 2 },
 }
 
-// A formula's bands, one for each standing row; those behind them mean nothing.
+// A formula's bands, one for each standing row; those behind them mean nothing. No list: the rows are as many for all
+// columns, and each of the bank's 512 would hold that number again.
 #[derive(Clone, Copy)]
 pub struct Column {
     pub(crate) bands: [u8; 16],
@@ -29,7 +30,7 @@ impl Column {
         requires can { (j : ℕ) → j < n → F.pre band j }
         ensures { (j : ℕ) → j < n → F.post band j (slice_index_or result.bands j 15) }
     {
-        // by index: in `array::from_fn` the rule would be called by a closure of this function's own, at numbers past `n` too
+        // by index: with `array::from_fn` the checker asked that the rule can be called at every number, and the proof did not close
         let mut bands = [15; 16];
         for j in 0..n {
             bands[j] = band(j);

@@ -18,6 +18,7 @@ impl<S: OperatorSet, M: Measure> Problem<S, M> {
     {
         let top = candidate.top;
         let [first, second] = candidate.args;
+        // an arity is a number and no kind: how many arguments there are
         let args = match top.arity(&self.set) {
             0 => [0, 0],
             1 => [marks.rank(first), 0],

@@ -1,5 +1,6 @@
 pub mod Pieces
 pub mod Decimals
+pub mod Faults
 pub mod LineSteps
 pub mod NameForms
 pub mod Ordinary

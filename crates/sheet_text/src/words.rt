@@ -42,7 +42,7 @@ impl<'a> Part<'a> {
     pub(crate) fn malformed(&self) -> Fault
         ensures { result ≡ text_fault Malformed self.now.spot }
     {
-        Fault::text(TextRefusal::Word, self.spot)
+        Fault::new(TextRefusal::Word, self.spot)
     }
 }
 

@@ -48,7 +48,7 @@ fn decimal_more(n: u8, b: &u8) -> Option<u8>
 }
 
 // The number from 0 to 255 that decimal digits write.
-// Not one with the sheet text's: there the digits are counted, here the value is bounded.
+// Not one with the sheet text's: there the digits are counted, here the value is bounded, and neither program builds on the other.
 pub(crate) fn number(word: &[u8]) -> Option<u8>
     ensures { result ≡ number_of word.now }
 {

@@ -1,4 +1,5 @@
 -- What `try_fold` over a list of numbers gives: a function of the total so far and of the numbers that are left, where each call takes one of them.
+-- The same stands in the program of calls: the two share only the crates of refusals and of rows.
 use Rattle.std.proofs.Common.{◌≡◌, ℕ, ◌+◌, List, [], ◌∷◌, ◌++◌, map, take, drop, length, Some, None, Option, refl, sym, ap, subst, ◌∙◌, MatchOption}
 use denote.Param.Members.{Mut}
 use Rattle.std.specs.declared.ops.ControlFlow.{ControlFlow}

@@ -52,6 +52,7 @@ impl<'a, N: Named> Labels<'a, N> {
         let pieces: Vec<Piece> = steps.iter().map(|step| self.piece(step)).collect(heap)?;
         let mut buffer = vec![in heap; 0u8; LONGEST]?;
         match print(&pieces, &mut buffer) {
+            // names are ASCII, so nothing is lost
             Ok(size) => String::from_utf8_lossy(heap, &buffer[..size]),
             Err(_) => String::from_str(heap, "long"),
         }

@@ -29,8 +29,8 @@ impl<'a> Parser<'a> {
         ensures { InLine self.old.lexer self.new.lexer result }
     {
         match self.lexer.next() {
-            Word::Part(part) => Some(part),
-            Word::LineEnd | Word::End => None,
+            Some(Word::Part(part)) => Some(part),
+            Some(Word::LineEnd) | None => None,
         }
     }
 
@@ -38,13 +38,13 @@ impl<'a> Parser<'a> {
     fn first_word(&mut self) -> Option<Part<'a>>
         ensures { IsFirstWord self.old.lexer self.new.lexer result }
     {
-        loop {
-            match self.lexer.next() {
-                Word::Part(part) => return Some(part),
-                Word::LineEnd => {}
-                Word::End => return None,
+        // not `find_map`: tried, and the proof did not close, as its contract does not say where the iterator stands after `None`
+        while let Some(word) = self.lexer.next() {
+            if let Word::Part(part) = word {
+                return Some(part);
             }
         }
+        None
     }
 
     // Takes the first word of the line that is due, and says where it stands.

@@ -29,9 +29,9 @@ impl fmt::Display for Refused {
     }
 }
 
-// Why a line has no answer of its own.
+// Why a line has no answer of its own, as it is printed.
 #[derive(Drop)]
-pub(crate) enum CallError {
+pub(crate) enum LineError {
     // A line that is no call.
     Unknown,
     // There is no law.
@@ -39,29 +39,40 @@ pub(crate) enum CallError {
     Refused(Refused),
     // A record that is not written, and the whole buffer.
     NotWritten(Refused, Vec<u8>),
-    OutOfMemory,
+}
+
+impl fmt::Display for LineError {
+    fn fmt<W: fmt::Write>(&self, f: &mut fmt::Formatter<W>) -> fmt::Result {
+        match self {
+            LineError::Unknown => write!(f, "unknown"),
+            LineError::Unsealed => write!(f, "unsealed"),
+            LineError::Refused(refused) => write!(f, "{refused}"),
+            LineError::NotWritten(refused, buffer) => write!(f, "{refused} buffer {}", Hex(buffer)),
+        }
+    }
+}
+
+// Why a call fails: for what its line says, or for want of memory, which ends the whole text.
+#[derive(Drop)]
+pub(crate) enum CallError {
+    Line(LineError),
+    OutOfMemory(AllocError),
+}
+
+impl From<LineError> for CallError {
+    fn from(error: LineError) -> CallError {
+        CallError::Line(error)
+    }
 }
 
 impl From<Refused> for CallError {
     fn from(refused: Refused) -> CallError {
-        CallError::Refused(refused)
+        CallError::Line(LineError::Refused(refused))
     }
 }
 
 impl From<AllocError> for CallError {
-    fn from(_error: AllocError) -> CallError {
-        CallError::OutOfMemory
-    }
-}
-
-impl fmt::Display for CallError {
-    fn fmt<W: fmt::Write>(&self, f: &mut fmt::Formatter<W>) -> fmt::Result {
-        match self {
-            CallError::Unknown => write!(f, "unknown"),
-            CallError::Unsealed => write!(f, "unsealed"),
-            CallError::Refused(refused) => write!(f, "{refused}"),
-            CallError::NotWritten(refused, buffer) => write!(f, "{refused} buffer {}", Hex(buffer)),
-            CallError::OutOfMemory => write!(f, "out of memory"),
-        }
+    fn from(error: AllocError) -> CallError {
+        CallError::OutOfMemory(error)
     }
 }

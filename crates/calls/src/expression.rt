@@ -1,4 +1,4 @@
-use crate::error::{CallError, Refused};
+use crate::error::{CallError, LineError, Refused};
 use crate::forms::{bits, bytes};
 use books::book::Book;
 use operators::builtin::Builtin;
@@ -16,12 +16,12 @@ fn book_of(heap: Global, hex: &[u8]) -> Result<Book, CallError> {
 }
 
 // The bits that a word writes.
-fn bits_of(word: &[u8]) -> Result<u64, CallError> {
-    bits(word).ok_or(CallError::Unknown)
+fn bits_of(word: &[u8]) -> Result<u64, LineError> {
+    bits(word).ok_or(LineError::Unknown)
 }
 
 // The built-in set behind the bits that a word writes.
-fn masked_builtin(word: &[u8]) -> Result<Mask<Builtin>, CallError> {
+fn masked_builtin(word: &[u8]) -> Result<Mask<Builtin>, LineError> {
     Ok(Mask {
         set: Builtin,
         bits: bits_of(word)?,
@@ -43,7 +43,7 @@ fn masked(heap: Global, bits: u64, below: &[&[u8]]) -> Result<AnySet, CallError>
             },
             bits,
         })),
-        _ => Err(CallError::Unknown),
+        _ => Err(LineError::Unknown.into()),
     }
 }
 
@@ -80,11 +80,11 @@ fn quad(words: &[&[u8]]) -> Option<Quad> {
 }
 
 // Pairs of built-in sets only.
-fn builtin_pairs(words: &[&[u8]]) -> Result<AnySet, CallError> {
+fn builtin_pairs(words: &[&[u8]]) -> Result<AnySet, LineError> {
     quad(words)
         .map(AnySet::Four)
         .or_else(|| pair_of(words, quad).map(AnySet::Eight))
-        .ok_or(CallError::Unknown)
+        .ok_or(LineError::Unknown)
 }
 
 // A pair: the words of the first set and then of the second.
@@ -110,7 +110,7 @@ fn paired(heap: Global, words: &[&[u8]]) -> Result<AnySet, CallError> {
             first: masked_builtin(first)?,
             second: masked_builtin(second)?,
         })),
-        _ => builtin_pairs(words),
+        _ => Ok(builtin_pairs(words)?),
     }
 }
 

@@ -1,7 +1,7 @@
 ghost use Rattle.std.specs.Prelude.{◌≡◌};
 ghost use Rattle.calls.specs.Forms.{hex_value, hex_next, decimal_value, decimal_next, bits_of, number_of};
 
-use crate::error::CallError;
+use crate::error::{CallError, LineError};
 use std::alloc::Global;
 
 fn decimal_digit(b: u8) -> Option<u8>
@@ -48,7 +48,7 @@ fn decimal_more(n: u8, b: &u8) -> Option<u8>
 }
 
 // The number from 0 to 255 that decimal digits write.
-// Not one with the sheet text's: there the digits are counted, here the value is bounded.
+// Not one with the sheet text's: there the digits are counted, here the value is bounded, and neither program builds on the other.
 pub(crate) fn number(word: &[u8]) -> Option<u8>
     ensures { result ≡ number_of word.now }
 {
@@ -82,10 +82,10 @@ pub(crate) fn bytes(heap: Global, word: &[u8]) -> Result<Vec<u8>, CallError> {
         return Ok(Vec::new(heap));
     }
     let (pairs, []) = word.as_chunks::<2>() else {
-        return Err(CallError::Unknown);
+        return Err(LineError::Unknown.into());
     };
     pairs
         .iter()
-        .map(|digits| byte(digits).ok_or(CallError::Unknown))
+        .map(|digits| byte(digits).ok_or(CallError::Line(LineError::Unknown)))
         .try_collect(heap)
 }

@@ -1,5 +1,5 @@
 use crate::answer::Answer;
-use crate::error::{CallError, Refused};
+use crate::error::{CallError, LineError, Refused};
 use crate::expression::set_of;
 use crate::forms::{bytes, number, plain};
 use crate::words::words_of;
@@ -16,8 +16,8 @@ use std::fmt::Write;
 const LONGEST: usize = 100_000;
 
 // The number of an operator.
-fn operator(word: &[u8]) -> Result<u8, CallError> {
-    number(word).ok_or(CallError::Unknown)
+fn operator(word: &[u8]) -> Result<u8, LineError> {
+    number(word).ok_or(LineError::Unknown)
 }
 
 // The calls so far leave a set in force, and maybe a law.
@@ -53,7 +53,7 @@ impl Session {
 
     // law COUNT
     fn begin_law(&mut self, count: &[u8]) -> Result<Answer, CallError> {
-        let count = plain(count).ok_or(CallError::Unknown)?;
+        let count = plain(count).ok_or(LineError::Unknown)?;
         let channels = ChannelCount::new(count).map_err(Refused::from)?;
         self.law = Some(Law::new(self.set, channels));
         Ok(Answer::Done)
@@ -62,7 +62,7 @@ impl Session {
     // fill HEX
     fn fill(&mut self, record: &[u8]) -> Result<Answer, CallError> {
         let record = bytes(self.heap, record)?;
-        let law = self.law.as_mut().ok_or(CallError::Unsealed)?;
+        let law = self.law.as_mut().ok_or(LineError::Unsealed)?;
         law.fill(&record).map_err(Refused::from)?;
         Ok(Answer::Done)
     }
@@ -70,7 +70,7 @@ impl Session {
     // reading HEX
     fn reading(&self, reading: &[u8]) -> Result<Answer, CallError> {
         let reading = bytes(self.heap, reading)?;
-        let law = self.law.as_ref().ok_or(CallError::Unsealed)?;
+        let law = self.law.as_ref().ok_or(LineError::Unsealed)?;
         let band = law.band(&reading).map_err(Refused::from)?;
         Ok(Answer::Band(band))
     }
@@ -79,12 +79,12 @@ impl Session {
     fn record(&self, size: &[u8]) -> Result<Answer, CallError> {
         let size = plain(size)
             .filter(|n| *n <= LONGEST)
-            .ok_or(CallError::Unknown)?;
-        let law = self.law.as_ref().ok_or(CallError::Unsealed)?;
+            .ok_or(LineError::Unknown)?;
+        let law = self.law.as_ref().ok_or(LineError::Unsealed)?;
         let mut buffer = vec![in self.heap; 0xaau8; size]?;
         match law.record(&mut buffer) {
             Ok(length) => Ok(Answer::Written(length, buffer)),
-            Err(refusal) => Err(CallError::NotWritten(refusal.into(), buffer)),
+            Err(refusal) => Err(LineError::NotWritten(refusal.into(), buffer).into()),
         }
     }
 
@@ -100,7 +100,7 @@ impl Session {
             [b"fill", record] => self.fill(record),
             [b"reading", reading] => self.reading(reading),
             [b"record", size] => self.record(size),
-            _ => Err(CallError::Unknown),
+            _ => Err(LineError::Unknown.into()),
         }
     }
 }
@@ -116,8 +116,8 @@ pub(crate) fn answers_to(heap: Global, text: &[u8]) -> Result<String, AllocError
         }
         match session.call(&words) {
             Ok(answer) => writeln!(answers, "{answer}")?,
-            Err(CallError::OutOfMemory) => return Err(AllocError),
-            Err(error) => writeln!(answers, "{error}")?,
+            Err(CallError::Line(error)) => writeln!(answers, "{error}")?,
+            Err(CallError::OutOfMemory(error)) => return Err(error),
         }
     }
     Ok(answers)

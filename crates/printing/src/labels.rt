@@ -5,6 +5,7 @@ use formulas::steps::Top;
 use rows::span::Span;
 
 // The `size` bytes from `from` on, or none where there are not so many.
+// Not one with the sheet text's look at a name: there the contract says that the span lies in the text, and here it may not.
 fn cut(bytes: &[u8], from: usize, size: usize) -> &[u8]
     ensures { result.now ≡ part bytes.now from size }
 {

@@ -32,6 +32,7 @@ fn step_size(piece: &Piece, before: &[Option<usize>]) -> Option<usize>
         return Some(piece.label.len());
     }
     let one = with_argument(piece.label.len(), 2, argument_size(before, first))?;
+    // an arity is a number and no kind: how many arguments there are
     match piece.arity {
         1 => Some(one),
         2 => with_argument(one, 1, argument_size(before, second)),

@@ -16,6 +16,7 @@ fn put_formula(front: &mut Front<'_>, pieces: &[Piece], step: usize)
     };
     let [first, second] = piece.args;
     front.put(piece.label);
+    // an arity is a number and no kind: how many arguments there are
     if piece.arity == 0 {
         return;
     }

@@ -8,20 +8,20 @@ use sheet_text::parse::parse;
 use sheet_text::refusal::ParseError;
 use sheet_text::sheet::{MeasureKind, SheetText};
 use std::alloc::{AllocError, Global};
+use std::fmt::Write;
 
 // A search settles within so many advances.
 const ADVANCES: usize = 513;
 
 // What the program prints for a sheet text. A refused sheet prints one line only.
-pub(crate) fn answer_to(heap: Global, text: &[u8]) -> Result<Vec<u8>, AllocError> {
+pub(crate) fn answer_to(heap: Global, text: &[u8]) -> Result<String, AllocError> {
     match parse(heap, text) {
         Ok(sheet) => match sheet.measure {
             MeasureKind::Nodes => searched(heap, text, &sheet, Charge::nodes()),
             MeasureKind::Depth => searched(heap, text, &sheet, Depth),
         },
-        Err(ParseError::Refused(fault)) => {
-            Vec::from_slice(heap, format!(in heap; "{fault}\n")?.as_bytes())
-        }
+        Err(ParseError::Refused(fault)) => format!(in heap; "{fault}\n"),
+        // made by hand, since the parser's `Memory` holds no `AllocError`: its contract says no more than that memory was wanting
         Err(ParseError::Memory) => Err(AllocError),
     }
 }
@@ -32,23 +32,22 @@ fn searched<M: Measure + Drop>(
     text: &[u8],
     sheet: &SheetText,
     measure: M,
-) -> Result<Vec<u8>, AllocError> {
+) -> Result<String, AllocError> {
     let mut finder = Finder::open(sheet.channels, sheet.limit, Builtin, measure);
     for row in &sheet.rows {
         // the parser has judged every row already
         let _ = finder.add(row);
     }
-    let mut out = Vec::new(heap);
+    let mut out = String::new(heap);
     for _ in 0..ADVANCES {
         let Ok(answer) = finder.advance() else {
             break;
         };
-        out.extend_from_slice(format!(in heap; "{answer}\n")?.as_bytes())?;
+        writeln!(out, "{answer}")?;
     }
     if let Some(steps) = finder.formula() {
         let labels = Labels::new(heap, &Builtin, text, &sheet.names)?;
-        out.extend_from_slice(&labels.printed(heap, steps.as_slice())?)?;
-        out.push(b'\n')?;
+        writeln!(out, "{}", labels.printed(heap, steps.as_slice())?)?;
     }
     Ok(out)
 }

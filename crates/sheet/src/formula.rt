@@ -48,15 +48,13 @@ impl<'a, N: Named> Labels<'a, N> {
     }
 
     // The printed formula of the steps, or `long` where it does not fit.
-    pub(crate) fn printed(&self, heap: Global, steps: &[Step]) -> Result<Vec<u8>, AllocError> {
+    pub(crate) fn printed(&self, heap: Global, steps: &[Step]) -> Result<String, AllocError> {
         let pieces: Vec<Piece> = steps.iter().map(|step| self.piece(step)).collect(heap)?;
         let mut buffer = vec![in heap; 0u8; LONGEST]?;
         match print(&pieces, &mut buffer) {
-            Ok(size) => {
-                buffer.truncate(size);
-                Ok(buffer)
-            }
-            Err(_) => Vec::from_slice(heap, b"long"),
+            // names are ASCII, so nothing is lost
+            Ok(size) => String::from_utf8_lossy(heap, &buffer[..size]),
+            Err(_) => String::from_str(heap, "long"),
         }
     }
 }

@@ -23,7 +23,7 @@ fn read_sheet(rt: &HostRuntime) -> io::Result<Vec<u8>> {
 fn run(rt: &HostRuntime) -> anyhow::Result<()> {
     let text = read_sheet(rt)?;
     let lines = answer_to(rt.alloc(), &text)?;
-    rt.stdout().write_all(&lines)?;
+    rt.stdout().write_all(lines.as_bytes())?;
     Ok(())
 }
 

@@ -112,7 +112,7 @@ const SHEETS: [(&str, &str); 31] = [
 fn sheets(rt: HostRuntime) -> Result<(), Fail> {
     for (text, lines) in SHEETS {
         let out = answer_to(rt.alloc(), text.as_bytes())?;
-        assert!(rt; out.as_slice() == lines.as_bytes(), "{}", text);
+        assert!(rt; out.as_str() == lines, "{}", text);
     }
     Ok(())
 }

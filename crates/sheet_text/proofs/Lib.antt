@@ -1,5 +1,6 @@
 pub mod Pieces
-pub mod Decimals
+pub mod Digits
+pub mod Faults
 pub mod LineSteps
 pub mod NameForms
 pub mod Ordinary
@@ -8,3 +9,4 @@ pub mod Repeats
 pub mod RowsSaid
 pub mod SaidRight
 pub mod Told
+pub mod TryFold

@@ -34,7 +34,7 @@ two_words due s t u head (Err f) d h = inr (t, head, d, h)
 pub named_none : (s : Lexer) (names : List Span) → names ≡ [] → Named s names s
 named_none s names e = let P : List Span → Type 0 = λ ns. Named s ns s in subst P (sym e) lines.Named.none
 
-pub named_more : (s t u : Lexer) (names more : List Span) (p : Part) → more ≡ names ++ (span_of p ∷ []) → Named s names t → Lexed t u (word.Part p) → name_ok s.text.now names p.bytes.now ≡ true → Named s more u
+pub named_more : (s t u : Lexer) (names more : List Span) (p : Part) → more ≡ names ++ (span_of p ∷ []) → Named s names t → Lexed t u (Some (word.Part p)) → name_ok s.text.now names p.bytes.now ≡ true → Named s more u
 named_more s t u names more p e h l k = let P : List Span → Type 0 = λ ns. Named s ns u in subst P (sym e) (lines.Named.more names t u p h l k)
 
 -- the same judgement over the same text and names
@@ -44,7 +44,7 @@ name-same text text' names names' name b e f h = sym (h ∙ ap (λ t. name_ok t 
 pub bytes_none : (s : Lexer) (bytes : List ℕ) → bytes ≡ [] → BytesRead s bytes s
 bytes_none s bytes e = let P : List ℕ → Type 0 = λ bs. BytesRead s bs s in subst P (sym e) lines.BytesRead.none
 
-pub bytes_more : (s t u : Lexer) (bytes more : List ℕ) (p : Part) (b : ℕ) → more ≡ bytes ++ (b ∷ []) → BytesRead s bytes t → Lexed t u (word.Part p) → byte_of p.bytes.now ≡ Some b → BytesRead s more u
+pub bytes_more : (s t u : Lexer) (bytes more : List ℕ) (p : Part) (b : ℕ) → more ≡ bytes ++ (b ∷ []) → BytesRead s bytes t → Lexed t u (Some (word.Part p)) → byte_of p.bytes.now ≡ Some b → BytesRead s more u
 bytes_more s t u bytes more p b e h l k = let P : List ℕ → Type 0 = λ bs. BytesRead s bs u in subst P (sym e) (lines.BytesRead.more bytes t u p b h l k)
 
 -- a fault among the names is one of the channels' line

@@ -33,7 +33,7 @@ pub rows_right : (channels : ℕ) (s u : Lexer) (rows : List (List ℕ)) → Row
 rows_right channels s u rows h = said-rows channels s rows h.0 h.1
 
 -- the bytes of a word that was taken stand in the text at its span
-pub span_reads : (s t : Lexer) (p : Part) → Lexed s t (word.Part p) → name_at s.text.now (span_of p) ≡ p.bytes.now
+pub span_reads : (s t : Lexer) (p : Part) → Lexed s t (Some (word.Part p)) → name_at s.text.now (span_of p) ≡ p.bytes.now
 span_reads s t p h =
     let rest = drop (start_of s) s.text.now in
     let e : length p.bytes.now ≡ size_of s = ap length h.1 ∙ length-take-le (size_of s) rest (prefix_len-le-length in_word rest) in
@@ -54,7 +54,7 @@ named_within s names t (lines.Named.more before a u p h l k) =
     All-push (InText (length s.text.now)) before (span_of p) (named_within s before a h) (omega (arith, word-within a t p l))
 
 -- what the names before a word are, where it was taken
-pub names_before : (s t u : Lexer) (p : Part) (names given : List Span) → given ≡ names → Named s names t → Lexed t u (word.Part p) → AllByRecursion (InText (length u.text.now)) given
+pub names_before : (s t u : Lexer) (p : Part) (names given : List Span) → given ≡ names → Named s names t → Lexed t u (Some (word.Part p)) → AllByRecursion (InText (length u.text.now)) given
 names_before s t u p names given e h l =
     let k : length s.text.now ≡ length u.text.now = ap (λ text. length text.now) (sym (l.4.0 ∙ named_text s names t h)) in
     subst (AllByRecursion (InText (length u.text.now))) (sym e) (subst (λ n. AllByRecursion (InText n) names) k (named_within s names t h))

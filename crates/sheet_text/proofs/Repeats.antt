@@ -1,4 +1,4 @@
-use Rattle.std.proofs.Common.{◌≡◌, ℕ, ◌+◌, ◌≤◌, ◌||◌, List, [], ◌∷◌, length, drop, refl, ap, arith, length-take}
+use Rattle.std.proofs.Common.{◌≡◌, ℕ, ◌+◌, ◌≤◌, ◌||◌, List, [], ◌∷◌, length, drop, refl, ap, arith, length-take, Some}
 use Rattle.std.specs.Str.{bytes_eq}
 use Rattle.sheet_text.specs.Spans.{name_at, repeats}
 use Rattle.rows.specs.declared.span.Span.{Span}
@@ -9,7 +9,7 @@ use Rattle.sheet_text.specs.declared.lexer.Part.{Part}
 use Rattle.sheet_text.specs.declared.lexer.Word.TheVariants as word
 
 -- a word that was taken lies within the text
-pub word-within : (s t : Lexer) (p : Part) → Lexed s t (word.Part p) → p.from + length p.bytes.now ≤ length t.text.now
+pub word-within : (s t : Lexer) (p : Part) → Lexed s t (Some (word.Part p)) → p.from + length p.bytes.now ≤ length t.text.now
 word-within s t p h =
     let e : length p.bytes.now ≤ size_of s = omega (arith, ap length h.1, length-take (size_of s) (drop (start_of s) s.text.now)) in
     omega (arith, h.2, h.4.1, t.within)

@@ -45,7 +45,7 @@ pub record Took (s t : Lexer) (p : Part) : Type 0 where
   pub spot_word : p.spot.word ≡ s.word + 1
   pub text : t.text ≡ s.text
 
-pub took : (s t : Lexer) (p : Part) → Lexed s t (word.Part p) → Took s t p
+pub took : (s t : Lexer) (p : Part) → Lexed s t (Some (word.Part p)) → Took s t p
 took s t p h =
     let R = drop (start_of s) s.text.now in
     let behind : rest t ≡ drop (prefix_len in_word R) R = ap₂ (λ (x : Bor (List ℕ)) (n : ℕ). drop n x.now) h.4.0 h.4.1 ∙ sym (drop-drop (size_of s) (start_of s) s.text.now) in
@@ -74,7 +74,7 @@ pub record Closed (s t : Lexer) : Type 0 where
   pub last : t.last ≡ s.last
   pub text : t.text ≡ s.text
 
-ended : (s t : Lexer) → Lexed s t word.LineEnd → Closed s t
+ended : (s t : Lexer) → Lexed s t (Some word.LineEnd) → Closed s t
 ended s t h =
     let text = s.text.now in
     let b = get_or text (start_of s) 0 in
@@ -92,7 +92,7 @@ ended s t h =
       text = h.2.0;
     }
 
-finished : (s t : Lexer) → Lexed s t word.End → Closed s t
+finished : (s t : Lexer) → Lexed s t None → Closed s t
 finished s t h =
     let text = s.text.now in
     let none : drop (start_of s) text ≡ [] = drop_all (start_of s) text (let e = h.1 in omega arith) in

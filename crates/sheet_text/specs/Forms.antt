@@ -1,5 +1,5 @@
 -- The forms of words: a channel name, a number of digits, a measure.
-use Rattle.std.specs.Prelude.{ℕ, ◌+◌, ◌-◌, ◌*◌, Bool, false, cond, ◌&&◌, ◌||◌, List, [], ◌∷◌, length, Some, None, codes, Option, ◌==◌, nat_le}
+use Rattle.std.specs.Prelude.{ℕ, ◌+◌, ◌-◌, ◌*◌, Bool, false, cond, ◌&&◌, ◌||◌, List, [], ◌∷◌, length, Some, None, codes, Option, ◌==◌, nat_le, nat_lt, ◌^◌}
 use Rattle.std.specs.List.{prefix_len}
 use Rattle.std.specs.Str.{bytes_eq}
 use Rattle.sheet_text.specs.declared.sheet.MeasureKind.{MeasureKind}
@@ -33,6 +33,10 @@ decimal_after n (b ∷ bs) = decimal_after (n * 10 + (b - 48)) bs
 
 abbrev pub decimal : List ℕ → ℕ
 decimal word = decimal_after 0 word
+
+-- a number with one digit more, as long as it is below 2 ^ 32
+abbrev pub decimal_next : ℕ → ℕ → Option ℕ
+decimal_next n b = cond (digit b && nat_lt (n * 10 + (b - 48)) (2 ^ 32)) (Some (n * 10 + (b - 48))) None
 
 -- a word of so many digits at most as a number
 abbrev pub number_of : ℕ → List ℕ → Option ℕ

@@ -65,13 +65,13 @@ span_of p = record { from = p.from; size = length p.bytes.now }
 
 pub data Named (s : Lexer) : List Span → Lexer → Type 0 where
   none : Named s [] s
-  more : (names : List Span) (t u : Lexer) (p : Part) → Named s names t → Lexed t u (word.Part p) → name_ok s.text.now names p.bytes.now ≡ true
+  more : (names : List Span) (t u : Lexer) (p : Part) → Named s names t → Lexed t u (Some (word.Part p)) → name_ok s.text.now names p.bytes.now ≡ true
       → Named s (names ++ (span_of p ∷ [])) u
 
 -- the names in the rest of a line, or the first of them that is not right
 abbrev pub Names : Lexer → Lexer → Result (List Span) Fault → Type 0
 Names s u (Ok names) = (t : Lexer) × Named s names t × InLine t u None
-Names s u (Err f) = (names : List Span) × (t : Lexer) × (p : Part) × Named s names t × Lexed t u (word.Part p)
+Names s u (Err f) = (names : List Span) × (t : Lexer) × (p : Part) × Named s names t × Lexed t u (Some (word.Part p))
     × (name_ok s.text.now names p.bytes.now ≡ false) × (f ≡ text_fault text.Word p.spot)
 
 -- at most eight channels
@@ -83,13 +83,13 @@ ChannelsLine s u (Err f) = Due (codes "channels") s u (Err f)
 
 pub data BytesRead (s : Lexer) : List ℕ → Lexer → Type 0 where
   none : BytesRead s [] s
-  more : (bytes : List ℕ) (t u : Lexer) (p : Part) (b : ℕ) → BytesRead s bytes t → Lexed t u (word.Part p) → byte_of p.bytes.now ≡ Some b
+  more : (bytes : List ℕ) (t u : Lexer) (p : Part) (b : ℕ) → BytesRead s bytes t → Lexed t u (Some (word.Part p)) → byte_of p.bytes.now ≡ Some b
       → BytesRead s (bytes ++ (b ∷ [])) u
 
 -- the bytes in the rest of a line, or the first word of it that is no byte
 abbrev pub Bytes : Lexer → Lexer → Result (List ℕ) Fault → Type 0
 Bytes s u (Ok bytes) = (t : Lexer) × BytesRead s bytes t × InLine t u None
-Bytes s u (Err f) = (bytes : List ℕ) × (t : Lexer) × (p : Part) × BytesRead s bytes t × Lexed t u (word.Part p)
+Bytes s u (Err f) = (bytes : List ℕ) × (t : Lexer) × (p : Part) × BytesRead s bytes t × Lexed t u (Some (word.Part p))
     × (byte_of p.bytes.now ≡ None) × (f ≡ text_fault text.Word p.spot)
 
 -- a row's fault as a row of the sheet: sixteen rows stand, or its bytes are refused

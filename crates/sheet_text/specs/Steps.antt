@@ -7,15 +7,15 @@ use Rattle.sheet_text.specs.Texts.{Lexed}
 
 -- the next word of the line, or the end of the line or of the text
 abbrev pub InLine : Lexer → Lexer → Option Part → Type 0
-InLine s t (Some p) = Lexed s t (word.Part p)
-InLine s t None = Lexed s t word.LineEnd ⊎ Lexed s t word.End
+InLine s t (Some p) = Lexed s t (Some (word.Part p))
+InLine s t None = Lexed s t (Some word.LineEnd) ⊎ Lexed s t None
 
 -- from one place to another past the ends of lines that have no more words
 pub data Passed (s : Lexer) : Lexer → Type 0 where
   start : Passed s s
-  more : (t u : Lexer) → Passed s t → Lexed t u word.LineEnd → Passed s u
+  more : (t u : Lexer) → Passed s t → Lexed t u (Some word.LineEnd) → Passed s u
 
 -- the next word, past the ends of lines, or the end of the text
 abbrev pub IsFirstWord : Lexer → Lexer → Option Part → Type 0
-IsFirstWord s u (Some p) = (t : Lexer) × Passed s t × Lexed t u (word.Part p)
-IsFirstWord s u None = (t : Lexer) × Passed s t × Lexed t u word.End
+IsFirstWord s u (Some p) = (t : Lexer) × Passed s t × Lexed t u (Some (word.Part p))
+IsFirstWord s u None = (t : Lexer) × Passed s t × Lexed t u None

@@ -1,5 +1,5 @@
 ghost use Rattle.std.specs.Prelude.{◌≡◌, ◌≤◌};
-ghost use Rattle.sheet_text.specs.Forms.{name_byte, is_name, number_of, byte_of, measure_of};
+ghost use Rattle.sheet_text.specs.Forms.{name_byte, is_name, decimal_next, number_of, byte_of, measure_of};
 
 use crate::sheet::MeasureKind;
 
@@ -17,7 +17,19 @@ pub(crate) fn is_name(word: &[u8]) -> bool
     }
 }
 
+// A number of 32 bits with one digit more.
+// Not one with the calls' `decimal_more`: there the bound of 255 is part of what a number is, and neither program builds on the other.
+fn digit_more(n: u32, b: &u8) -> Option<u32>
+    ensures { result ≡ decimal_next n b.now }
+{
+    match b {
+        b'0'..=b'9' => n.checked_mul(10)?.checked_add(u32::from(b - b'0')),
+        _ => None,
+    }
+}
+
 // The number that a word of one to `most` digits writes.
+// Not `parse`, which takes a sign too.
 pub(crate) fn number(word: &[u8], most: usize) -> Option<u32>
     requires { most ≤ 7 }
     ensures { result ≡ number_of most word.now }
@@ -25,15 +37,7 @@ pub(crate) fn number(word: &[u8], most: usize) -> Option<u32>
     if word.is_empty() || word.len() > most {
         return None;
     }
-    // not `parse`, which takes a sign too
-    let mut n = 0;
-    for b in word {
-        if !b.is_ascii_digit() {
-            return None;
-        }
-        n = n * 10 + u32::from(b - b'0');
-    }
-    Some(n)
+    word.iter().try_fold(0, digit_more)
 }
 
 // The byte that a word of one to three digits writes.

@@ -15,12 +15,11 @@ pub struct Part<'a> {
     pub spot: Spot,
 }
 
-// What stands next in the text: a word, the end of a line, or the end of the text.
+// What stands next in the text: a word, or the end of a line.
 #[derive(Clone, Copy)]
 pub enum Word<'a> {
     Part(Part<'a>),
     LineEnd,
-    End,
 }
 
 // A text of at most 4,096 bytes that has been read up to the byte `at`: so many lines are ended, so many words stand before in the line that is read, and

@@ -7,6 +7,7 @@ use crate::forms::is_name;
 use rows::span::Span;
 
 // Whether the name stands at the span of the text.
+// Not by the printing's `cut`: here the contract says that the span lies in the text, and there it may not.
 fn stands_at(text: &[u8], span: &Span, name: &[u8]) -> bool
     requires { InText (length text.now) span.now }
     ensures { result ≡ bytes_eq (name_at text.now span.now) name.now }

@@ -15,7 +15,7 @@ pub fn parse(heap: Global, text: &[u8]) -> Result<SheetText, ParseError>
 {
     if text.len() > 4096 {
         let start = Spot { line: 1, word: 1 };
-        return Err(Fault::text(TextRefusal::TooLong, start).into());
+        return Err(Fault::new(TextRefusal::TooLong, start).into());
     }
     let mut parser = Parser {
         lexer: Lexer::new(text),

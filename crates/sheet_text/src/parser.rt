@@ -29,8 +29,8 @@ impl<'a> Parser<'a> {
         ensures { InLine self.old.lexer self.new.lexer result }
     {
         match self.lexer.next() {
-            Word::Part(part) => Some(part),
-            Word::LineEnd | Word::End => None,
+            Some(Word::Part(part)) => Some(part),
+            Some(Word::LineEnd) | None => None,
         }
     }
 
@@ -38,13 +38,13 @@ impl<'a> Parser<'a> {
     fn first_word(&mut self) -> Option<Part<'a>>
         ensures { IsFirstWord self.old.lexer self.new.lexer result }
     {
-        loop {
-            match self.lexer.next() {
-                Word::Part(part) => return Some(part),
-                Word::LineEnd => {}
-                Word::End => return None,
+        // not `find_map`: tried, and the proof did not close, as its contract does not say where the iterator stands after `None`
+        while let Some(word) = self.lexer.next() {
+            if let Word::Part(part) = word {
+                return Some(part);
             }
         }
+        None
     }
 
     // Takes the first word of the line that is due, and says where it stands.
@@ -56,10 +56,10 @@ impl<'a> Parser<'a> {
                 line: self.lexer.last + 1,
                 word: 1,
             };
-            return Err(Fault::text(TextRefusal::FirstWord, after));
+            return Err(Fault::new(TextRefusal::FirstWord, after));
         };
         if part.bytes != word {
-            return Err(Fault::text(TextRefusal::FirstWord, part.spot));
+            return Err(Fault::new(TextRefusal::FirstWord, part.spot));
         }
         Ok(part.spot)
     }
@@ -68,7 +68,7 @@ impl<'a> Parser<'a> {
     fn sole_word(&mut self, head: Spot) -> Result<Part<'a>, Fault>
         ensures { SoleWord head self.old.lexer self.new.lexer result }
     {
-        let fault = Fault::text(TextRefusal::Word, head);
+        let fault = Fault::new(TextRefusal::Word, head);
         let part = self.word_in_line().ok_or(fault)?;
         match self.word_in_line() {
             Some(_) => Err(fault),
@@ -106,7 +106,7 @@ impl<'a> Parser<'a> {
     {
         let head = self.due(b"channels")?;
         let names = self.names()?;
-        let channels = ChannelCount::new(names.len()).map_err(|e| Fault::sheet(e, head))?;
+        let channels = ChannelCount::new(names.len()).map_err(|e| Fault::new(e, head))?;
         Ok((names, channels))
     }
 
@@ -124,7 +124,7 @@ impl<'a> Parser<'a> {
     {
         let part = self.two_words(b"limit")?;
         let limit = number(part.bytes, 7).ok_or(part.malformed())?;
-        Limit::new(limit).map_err(|e| Fault::sheet(e, part.spot))
+        Limit::new(limit).map_err(|e| Fault::new(e, part.spot))
     }
 
     // The bytes to the end of the line.
@@ -151,7 +151,7 @@ impl<'a> Parser<'a> {
     {
         let bytes = self.bytes()?;
         if standing >= 16 {
-            return Err(Fault::sheet(SheetRefusal::Rows, head).into());
+            return Err(Fault::new(SheetRefusal::Rows, head).into());
         }
         Row::read(&bytes, channels).map_err(|e| Fault::row(e, head))?;
         Ok(bytes)
@@ -164,7 +164,7 @@ impl<'a> Parser<'a> {
         let mut rows = Vec::new(self.heap);
         while let Some(part) = self.first_word() {
             if part.bytes != b"row".as_slice() {
-                return Err(Fault::text(TextRefusal::FirstWord, part.spot).into());
+                return Err(Fault::new(TextRefusal::FirstWord, part.spot).into());
             }
             let row = self.row_line(part.spot, rows.len(), channels)?;
             rows.push(row)?;

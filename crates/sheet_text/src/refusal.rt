@@ -1,7 +1,8 @@
 ghost use Rattle.std.specs.Prelude.{◌≡◌, ℕ, ◌+◌, ◌^◌, ◌<◌, Some};
 ghost use Rattle.refusals.specs.Numbers.{sheet_refusal};
-ghost use Rattle.sheet_text.specs.Refusals.{text_refusal, fault_number, text_fault, sheet_fault, row_fault};
+ghost use Rattle.sheet_text.specs.Refusals.{text_refusal, fault_number, row_fault};
 ghost use Rattle.sheet_text.specs.Layers.{cause_layer, layer_seen, layer_text, fault_text};
+ghost use Rattle.sheet_text.specs.declared.refusal.Cause.TheVariants.{Text as OfText, Sheet as OfSheet};
 ghost use Rattle.sheet_text.specs.declared.refusal.ParseError.TheVariants.{Refused as Faulty, Memory};
 
 use crate::lexer::Spot;
@@ -39,6 +40,22 @@ impl TextRefusal {
 pub enum Cause {
     Text(TextRefusal),
     Sheet(SheetRefusal),
+}
+
+impl From<TextRefusal> for Cause {
+    ghost from_gives = { λ t r. r ≡ OfText t };
+
+    fn from(text: TextRefusal) -> Cause {
+        Cause::Text(text)
+    }
+}
+
+impl From<SheetRefusal> for Cause {
+    ghost from_gives = { λ s r. r ≡ OfSheet s };
+
+    fn from(sheet: SheetRefusal) -> Cause {
+        Cause::Sheet(sheet)
+    }
 }
 
 // Where a refusal comes from: the text, a row, or what the finder would refuse.
@@ -92,20 +109,12 @@ pub struct Fault {
 }
 
 impl Fault {
-    pub(crate) fn text(refusal: TextRefusal, spot: Spot) -> Fault
-        ensures { result ≡ text_fault refusal spot }
+    pub(crate) fn new<C: Into<Cause>>(refusal: C, spot: Spot) -> Fault
+        ensures cause { C.converts refusal result.cause }
+        ensures spot { result.spot ≡ spot }
     {
         Fault {
-            cause: Cause::Text(refusal),
-            spot,
-        }
-    }
-
-    pub(crate) fn sheet(refusal: SheetRefusal, spot: Spot) -> Fault
-        ensures { result ≡ sheet_fault refusal spot }
-    {
-        Fault {
-            cause: Cause::Sheet(refusal),
+            cause: refusal.into(),
             spot,
         }
     }
@@ -125,7 +134,7 @@ impl Fault {
             | SheetRefusal::Limit
             | SheetRefusal::Channels => head,
         };
-        Fault::sheet(refusal, spot)
+        Fault::new(refusal, spot)
     }
 }
 

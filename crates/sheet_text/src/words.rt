@@ -1,4 +1,5 @@
-ghost use Rattle.std.specs.Prelude.{◌≡◌, ◌≤◌, length};
+ghost use Rattle.std.specs.Prelude.{◌≡◌, ◌-◌, ◌≤◌, length};
+ghost use Rattle.std.specs.Iterator.{at_most};
 ghost use Rattle.std.specs.List.{prefix_len};
 ghost use Rattle.sheet_text.specs.Lines.{span_of};
 ghost use Rattle.sheet_text.specs.Refusals.{text_fault};
@@ -42,7 +43,7 @@ impl<'a> Part<'a> {
     pub(crate) fn malformed(&self) -> Fault
         ensures { result ≡ text_fault Malformed self.now.spot }
     {
-        Fault::text(TextRefusal::Word, self.spot)
+        Fault::new(TextRefusal::Word, self.spot)
     }
 }
 
@@ -60,12 +61,18 @@ impl<'a> Lexer<'a> {
             last: 0,
         }
     }
+}
 
-    // Takes the next word, or the end of the line or of the text.
+// The words and the ends of the lines, one after the other to the end of the text.
+impl<'a> Iterator for Lexer<'a> {
+    type Item = Word<'a>;
+
+    ghost next_gives = { λ s r t. Lexed s t r };
+
+    ghost remaining = { λ s. at_most (length s.text.now - s.at) };
+
     #[tactic(auto, using(std::proofs::lemmas::List::take_rest))]
-    pub fn next(&mut self) -> Word<'a>
-        ensures { Lexed self.old self.new result }
-    {
+    fn next(&mut self) -> Option<Word<'a>> {
         let text = self.text;
         let from = self.at;
         let start = from + spaces(&text[from..]);
@@ -79,19 +86,19 @@ impl<'a> Lexer<'a> {
             self.at = start + size;
             self.word += 1;
             self.last = spot.line;
-            Word::Part(Part {
+            Some(Word::Part(Part {
                 bytes,
                 from: start,
                 spot,
-            })
+            }))
         } else if start < text.len() {
             self.at = start + 1;
             self.line += 1;
             self.word = 0;
-            Word::LineEnd
+            Some(Word::LineEnd)
         } else {
             self.at = start;
-            Word::End
+            None
         }
     }
 }

@@ -1,9 +1,11 @@
-use Rattle.std.proofs.Common.{arith}
-use Rattle.sheet_text.proofs.Decimals.{tens_bound}
+use Rattle.std.proofs.Common.{refl, arith, rules, tests}
+use Rattle.std.proofs.lemmas.Bool.Decides.{nat_tests}
+use Rattle.std.proofs.lemmas.Iterator.{YieldsList-from_slice}
+use Rattle.sheet_text.proofs.Digits.{number_is, within, within_next}
+use Rattle.sheet_text.proofs.TryFold.{try_fold_is}
 use Rattle.sheet_text.proofs.forms.number.Goals as goal
 
-pub overflow_mul-n : goal.overflow_mul-n
-overflow_mul-n c = let h = tens_bound _ _ c.loop-b.invariant.2 (omega arith) in omega arith
-
-pub overflow_add-n : goal.overflow_add-n
-overflow_add-n c = let h = tens_bound _ _ c.loop-b.invariant.2 (omega arith) in omega arith
+pub returns : goal.returns
+returns c =
+    number_is c.args.most c.args.word.now c.try_fold.result c.requires (grind (arith, nat_tests)) (grind (arith, nat_tests))
+    (try_fold_is _ (λ b. b.now) _ within _ (λ n x w q k. (search (rules, tests), λ ys. within_next n x.now w ys (search (rules, tests)))) _ 0 c.try_fold.result (λ n. refl) (YieldsList-from_slice c.args.word.now c.iter.ensures.rest) c.try_fold.ensures.ran)

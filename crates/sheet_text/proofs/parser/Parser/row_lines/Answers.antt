@@ -4,6 +4,7 @@ use Rattle.std.proofs.lemmas.Result.{err_from_is_err_and}
 use Rattle.sheet_text.specs.Lines.{RowLines}
 use Rattle.sheet_text.specs.Refusals.{Faulted}
 use Rattle.sheet_text.specs.Sheets.{row_bytes}
+use Rattle.sheet_text.proofs.Faults.{text_is}
 use Rattle.sheet_text.proofs.LineSteps.{rows_none, rows_more, rows_fault}
 use Rattle.sheet_text.proofs.Readings.{first_on, row_on}
 use Rattle.sheet_text.proofs.parser.Parser.row_lines.Goals as goal
@@ -15,7 +16,7 @@ pub returns-then-ne : goal.returns-then-ne
 returns-then-ne c =
     let e : bytes_eq c.in-Some.part.bytes.now (codes "row") ≡ false = search rules in
     subst (Faulted (RowLines c.args.channels.value c.args.self.now.lexer c.first_word.new.self.lexer)) (sym c.into.ensures)
-    (inl (row_bytes c.loop-part.rows, c.loop-part.self.lexer, c.in-Some.part, c.loop-part.invariant, c.in-Some.ensures, e, c.text.ensures))
+    (inl (row_bytes c.loop-part.rows, c.loop-part.self.lexer, c.in-Some.part, c.loop-part.invariant, c.in-Some.ensures, e, text_is _ _ _ c.new.ensures.cause c.new.ensures.spot))
 
 pub returns-in_err-row : goal.returns-in_err-row
 returns-in_err-row c =

@@ -94,10 +94,7 @@ impl Measure for Charge {
     }
 
     fn operator(&self, op: u8, args: &[Weight]) -> Weight {
-        let mut total = Weight::clamped(at(&self.operators, op) as u32);
-        for w in args {
-            total = total.plus(*w);
-        }
-        total
+        let own = Weight::clamped(at(&self.operators, op) as u32);
+        args.iter().fold(own, |total, w| total.plus(*w))
     }
 }

@@ -1,4 +1,4 @@
-ghost use Rattle.std.specs.Prelude.{◌≡◌, length};
+ghost use Rattle.std.specs.Prelude.{◌≡◌, length, replicate};
 
 // The wanted band, and the channels' bands in order; those past the channel count are 15 and mean nothing.
 #[derive(Clone, Copy)]
@@ -10,6 +10,8 @@ pub struct Row {
 
 // What stands where there is no row.
 impl Default for Row {
+    ghost is_default = { λ r. (r.wanted ≡ 0) × (r.bands ≡ replicate 8 15) };
+
     fn default() -> Row {
         Row {
             wanted: 0,

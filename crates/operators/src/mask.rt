@@ -64,7 +64,7 @@ impl<S: Named> Named for Mask<S> {
     ghost spelt = { λ s. masked_spelt (S.OperatorSet.meaning s.set) (S.Named.names s.set) (S.Named.spelt s.set) s.bits };
 
     fn name(&self, op: u8) -> [u8; 4] {
-        // no `map_or`: of what a closure here gives the check reads nothing off
+        // no `map_or`: what its closure gives for a named set the check does not read off
         match self.place(op) {
             Some(k) => self.set.name(k),
             None => NO_NAME,

@@ -1,6 +1,7 @@
 ghost use Rattle.std.specs.Prelude.{◌≡◌, length, replicate};
 
 // The wanted band, and the channels' bands in order; those past the channel count are 15 and mean nothing.
+// A table without a length: the channel count is the sheet's, one for all its rows, and a list in each row would hold it again.
 #[derive(Clone, Copy)]
 pub struct Row {
     pub wanted: u8,

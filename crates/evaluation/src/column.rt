@@ -31,10 +31,8 @@ pub fn column_of<S: OperatorSet>(
         |i| -> u8
             ensures { BandIn (S.OperatorSet.meaning set.entry.now) channels.value (listed steps.entry.now) rows.entry.now i result }
         {
-            match rows.get(i) {
-                Some(row) => band_of(steps, set, reading(row, channels)),
-                None => MARK,
-            }
+            rows.get(i)
+                .map_or(MARK, |row| band_of(steps, set, reading(row, channels)))
         },
     )
 }

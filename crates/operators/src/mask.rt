@@ -45,6 +45,7 @@ impl<S: OperatorSet> OperatorSet for Mask<S> {
 
     ghost lawful = { λ s. masked_laws (S.OperatorSet.meaning s.set) (S.OperatorSet.lawful s.set) s.bits };
 
+    #[tactic(auto, using(crate::proofs::Kept::kept_filter))]
     fn count(&self) -> u8 {
         ones(self.bits, self.set.count())
     }

@@ -32,6 +32,8 @@ impl Entry {
 }
 
 impl Default for Entry {
+    ghost is_default = { λ r. (r.name ≡ codes "none") × (r.arity ≡ 0) × (r.table ≡ replicate table_width 0) };
+
     fn default() -> Entry {
         Entry::spare()
     }

@@ -1,40 +1,32 @@
--- A table of sixteen is filled with a column, row by row.
-use Rattle.std.proofs.Common.{◌≡◌, ℕ, suc, ◌+◌, ◌-◌, ◌<◌, min, List, [], ◌∷◌, ◌++◌, length, get_or, take, set, replicate, sym, ap, ◌∙◌, ap₂, inl, inr, arith}
-use Rattle.std.proofs.lemmas.List.{append_assoc, length-map, length-take, length-take-le, map_more, set_at, take_all}
-use Rattle.std.proofs.lemmas.Bool.{cases_lt}
+-- A table of which each entry is known has a list in front and marks behind it.
+use Rattle.std.proofs.Common.{◌≡◌, ℕ, zero, suc, ◌+◌, ◌-◌, ◌<◌, ◌≤◌, List, [], ◌∷◌, ◌++◌, length, get_or, take, replicate, refl, ap, ap₂, ◌∙◌, sym, subst, ⊎_elim, arith}
+use Rattle.std.proofs.lemmas.Bool.{cases_eq}
+use Rattle.std.specs.Array.{IsFromFnResultFrom}
+use denote.Param.Members.{Mut, Called}
 use Rattle.operators.specs.Bands.{mark}
-use Rattle.rows.specs.Rows.{StandingRow}
-use Rattle.formulas.specs.Formula.{Formula, value, column}
-use Rattle.formulas.specs.Setting.{Setting}
-use Rattle.evaluation.specs.Columns.{table_size, in_table}
 
--- the column over the first i rows, with marks behind it
-abbrev pub filled : Setting → List StandingRow → Formula → ℕ → List ℕ
-filled E rows f i = column E (take i rows) f ++ replicate (table_size - i) mark
+all_marks : (n : ℕ) (xs : List ℕ) → length xs ≡ n → ((i : ℕ) → i < n → get_or xs i 0 ≡ mark) → xs ≡ replicate n mark
+all_marks zero [] e h = refl
+all_marks zero (x ∷ xs) e h = absurd (omega (arith, e))
+all_marks (suc n) [] e h = absurd (omega (arith, e))
+all_marks (suc n) (x ∷ xs) e h = ap₂ (λ v vs. v ∷ vs) (h zero (omega arith)) (all_marks n xs (omega (arith, e)) (λ i l. h (suc i) (omega arith)))
 
-put_more : (xs : List ℕ) (n i b : ℕ) → length xs ≡ i → i < n → set (xs ++ replicate (n - i) mark) i b ≡ (xs ++ b ∷ []) ++ replicate (n - (i + 1)) mark
-put_more xs n i b long l =
-    let e : n - i ≡ suc (n - (i + 1)) = omega arith in
-    ap (λ k. set (xs ++ replicate k mark) i b) e
-    ∙ set_at xs mark (replicate (n - (i + 1)) mark) b i long
-    ∙ sym (append_assoc xs (b ∷ []) (replicate (n - (i + 1)) mark))
+pub padded_front : (n : ℕ) (xs ys : List ℕ) → length xs ≡ n → ((i : ℕ) → i < n → get_or xs i 0 ≡ get_or ys i mark) → xs ≡ take n ys ++ replicate (n - length (take n ys)) mark
+padded_front zero [] ys e h = refl
+padded_front zero (x ∷ xs) ys e h = absurd (omega (arith, e))
+padded_front (suc n) [] ys e h = absurd (omega (arith, e))
+padded_front (suc n) (x ∷ xs) [] e h =
+    let whole : suc n ≡ suc n - 0 = omega arith in all_marks (suc n) (x ∷ xs) e h ∙ ap (λ k. replicate k mark) whole
+padded_front (suc n) (x ∷ xs) (y ∷ ys) e h =
+    let behind : n - length (take n ys) ≡ suc n - suc (length (take n ys)) = omega arith in
+    ap₂ (λ v vs. v ∷ vs) (h zero (omega arith)) (padded_front n xs ys (omega (arith, e)) (λ i l. h (suc i) (omega arith))) ∙ ap (λ k. y ∷ (take n ys ++ replicate k mark)) behind
 
-module _ (E : Setting) (rows : List StandingRow) (f : Formula) where
-  pub filled_more : (table : List ℕ) (i b : ℕ) (d : StandingRow) → table ≡ filled E rows f i → i < length rows → i < table_size → b ≡ value E (get_or rows i d).bands f → set table i b ≡ filled E rows f (i + 1)
-  filled_more table i b d inv l h e =
-      let long : length (column E (take i rows) f) ≡ i = length-map (take i rows) (λ (r : StandingRow). value E r.bands f) ∙ length-take-le i rows (omega arith) in
-      ap (λ (t : List ℕ). set t i b) inv
-      ∙ put_more (column E (take i rows) f) table_size i b long h
-      ∙ ap (λ xs. xs ++ replicate (table_size - (i + 1)) mark)
-      (ap (λ x. column E (take i rows) f ++ x ∷ []) e ∙ sym (map_more (λ (r : StandingRow). value E r.bands f) rows i d l))
-
-  pub filled_all : (i : ℕ) → i ≡ min (length rows) table_size → filled E rows f i ≡ in_table (column E (take table_size rows) f)
-  filled_all i e =
-      let long : length (column E (take table_size rows) f) ≡ i = length-map (take table_size rows) (λ (r : StandingRow). value E r.bands f) ∙ length-take table_size rows ∙ omega arith in
-      ap₂ (λ (rs : List StandingRow) (n : ℕ). column E rs f ++ replicate (table_size - n) mark) capped (sym long)
-    where
-      capped : take i rows ≡ take table_size rows
-      capped = elim (cases_lt (length rows) table_size) [
-        | inl l ↦ take_all i rows (omega arith) ∙ sym (take_all table_size rows (omega arith))
-        | inr l ↦ (let n : i ≡ table_size = omega arith in ap (λ k. take k rows) n)
-      ]
+-- what each call of a closure that stays as it is gives stands in the array that is made of them
+pub each_of : {F : Type 0} {g : Mut F (ℕ × Unit {0}) ℕ} (J : ℕ → ℕ → Type 0) (f : F) → ((i b : ℕ) (q : F) → Called g f (i, tt) b q → J i b × (q ≡ f)) → (ys : List ℕ) (n i : ℕ) → IsFromFnResultFrom g f ys i n → (k : ℕ) → i ≤ k → k < i + n → J k (get_or ys k 0)
+each_of J f step ys zero i made k l h = absurd (omega arith)
+each_of {F} {g} J f step ys (suc n) i (q, y, at, called, rest) k l h =
+    let t = step i y q called in
+    ⊎_elim
+    (λ (same : i ≡ k). subst (λ j. J j (get_or ys j 0)) same (subst (J i) (sym (at.1 0)) t.0))
+    (λ other. each_of J f step ys n (i + 1) (subst (λ p. IsFromFnResultFrom g p ys (i + 1) n) t.1 rest) k (omega arith) (omega arith))
+    (cases_eq i k)

@@ -1,13 +1,14 @@
 ghost use Rattle.std.specs.Prelude.{◌≡◌};
 ghost use Rattle.formulas.specs.Steps.{listed};
 ghost use Rattle.rows.specs.Read.{row_seen};
-ghost use Rattle.evaluation.specs.Columns.{ColumnIn};
+ghost use Rattle.evaluation.specs.Columns.{ColumnIn, BandIn};
 
 use crate::band::band_of;
 use formulas::steps::Steps;
 use operators::set::{MARK, OperatorSet};
 use rows::channels::ChannelCount;
 use rows::row::Row;
+use std::array;
 
 // The bands of the channels in a row.
 fn reading(row: &Row, channels: ChannelCount) -> &[u8]
@@ -26,11 +27,12 @@ pub fn column_of<S: OperatorSet>(
 ) -> [u8; 16]
     ensures { ColumnIn (S.OperatorSet.meaning set.now) channels.value (listed steps.now) rows.now result }
 {
-    let mut bands = [MARK; 16];
-    let first = &rows[..rows.len().min(16)];
-    // by index: of what `iter_mut` writes a proof knows nothing
-    for (i, row) in first.iter().enumerate() {
-        bands[i] = band_of(steps, set, reading(row, channels));
-    }
-    bands
+    array::from_fn(
+        |i| -> u8
+            ensures { BandIn (S.OperatorSet.meaning set.entry.now) channels.value (listed steps.entry.now) rows.entry.now i result }
+        {
+            rows.get(i)
+                .map_or(MARK, |row| band_of(steps, set, reading(row, channels)))
+        },
+    )
 }

@@ -5,7 +5,8 @@ ghost use Rattle.formulas.specs.Says.{argument_of};
 
 use formulas::steps::Step;
 
-// The entry at a place, `other` past the end.
+// The entry at a place, `other` past the end. One chain of the library's methods, as in other layers: the function names what this one
+// means.
 pub(crate) fn at<T: Copy>(table: &[T], i: usize, other: T) -> T
     ensures { result ≡ slice_index_or table.now i other }
 {

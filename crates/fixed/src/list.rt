@@ -2,8 +2,9 @@ ghost use Rattle.std.specs.Prelude.{◌≡◌, ◌≤◌, length};
 
 use std::alloc::AllocError;
 
-// Not the library's `ArrayVec`, which is not `Copy`: formulas, books and laws are copied.
+// Not the library's `ArrayVec`, which is not `Copy`: `Steps` and `Book`, which are public, are and have to stay it.
 // At most N values, the first `count` of the table. What stands behind them means nothing.
+#[derive(Copy)]
 pub struct FixedList<T, const N: usize> {
     pub table: [T; N],
     pub count: usize,
@@ -11,6 +12,7 @@ pub struct FixedList<T, const N: usize> {
     ghost whole: { length table ≡ N },
 }
 
+// by hand: the checker derives no `Clone` for a generic struct with ghost fields
 impl<T: Copy, const N: usize> Clone for FixedList<T, N> {
     ghost is_clone = { λ from to. to ≡ from };
 
@@ -20,8 +22,6 @@ impl<T: Copy, const N: usize> Clone for FixedList<T, N> {
         Ok(*self)
     }
 }
-
-impl<T: Copy, const N: usize> Copy for FixedList<T, N> {}
 
 // Why a value is not put into a list: as many stand as it holds.
 #[derive(Clone, Copy, PartialEq, Eq, Debug)]

@@ -1,5 +1,6 @@
-ghost use Rattle.std.specs.Prelude.{◌≡◌};
+ghost use Rattle.std.specs.Prelude.{◌≡◌, [], ◌∷◌};
 ghost use Rattle.formulas.specs.Says.{top_arity};
+ghost use Rattle.formulas.specs.declared.steps.Top.TheVariants.{Channel};
 
 use fixed::list::FixedList;
 use operators::set::OperatorSet;
@@ -24,7 +25,10 @@ pub struct Step {
 // The steps of a formula, in fixed memory.
 pub type Steps = FixedList<Step, MOST_STEPS>;
 
+// What stands where there is no step: channel 0.
 impl Default for Step {
+    ghost is_default = { λ r. (r.top ≡ Channel 0) × (r.args ≡ 0 ∷ 0 ∷ []) };
+
     fn default() -> Step {
         Step {
             top: Top::Channel(0),

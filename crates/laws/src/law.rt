@@ -22,7 +22,8 @@ pub struct Law<S> {
     steps: Option<Steps>,
 }
 
-// Refuses a reading that has not one band or mark for each channel.
+// Refuses a reading that has not one band or mark for each channel. What it shares with a row is `sound_bands`: a row's wanted band is
+// tested after the length and before the others, so that one function for both would have to know of it.
 fn check_reading(reading: &[u8], channels: u8) -> Result<(), SheetRefusal>
     ensures { refused_by sheet_refusal result ≡ reading_refusal channels reading.now }
 {

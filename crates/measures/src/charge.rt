@@ -20,7 +20,8 @@ pub struct Charge {
     ghost channels_full: { length channels ≡ most_channels },
 }
 
-// The charge at number `i`, 1 past the end.
+// The charge at number `i`, 1 past the end. One chain of the library's methods, as in other layers: the function names what this one
+// means.
 fn at(charges: &[u16], i: u8) -> u16
     ensures { result ≡ charge_at charges.now i }
 {
@@ -65,6 +66,13 @@ impl Charge {
         }
     }
 
+    // What an operator weighs by itself.
+    fn own(&self, op: u8) -> Weight
+        ensures { result.value ≡ charge_at self.now.operators op }
+    {
+        Weight::clamped(at(&self.operators, op) as u32)
+    }
+
     // Sets the charge of an operator number; nothing changes where one of the two is out of range.
     pub fn set_operator(&mut self, op: u8, charge: u16) -> Result<(), FirmwareRefusal>
         ensures refused { refused_by firmware_refusal result ≡ charge_refusal most_operators op charge }
@@ -94,10 +102,6 @@ impl Measure for Charge {
     }
 
     fn operator(&self, op: u8, args: &[Weight]) -> Weight {
-        let mut total = Weight::clamped(at(&self.operators, op) as u32);
-        for w in args {
-            total = total.plus(*w);
-        }
-        total
+        args.iter().fold(self.own(op), |total, w| total.plus(*w))
     }
 }

@@ -26,10 +26,6 @@ impl Measure for Depth {
     }
 
     fn operator(&self, _op: u8, args: &[Weight]) -> Weight {
-        let mut total = Weight::one();
-        for w in args {
-            total = over(total, *w);
-        }
-        total
+        args.iter().fold(Weight::one(), |total, w| over(total, *w))
     }
 }

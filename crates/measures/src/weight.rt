@@ -4,7 +4,7 @@ ghost use Rattle.std.specs.Prelude.{◌≡◌, ◌+◌, ◌≤◌, min, max, if�
 const BEYOND: u32 = 1_000_001;
 
 // A weight of 1 to 1,000,000, or beyond, which is greater.
-// One number and no enum: with beyond greater than all others, order, maximum and sum are those of the number.
+// One number and no enum: what a weight means in specs/ is that number, 1,000,001 where it is beyond, and clauses speak of `value`.
 #[derive(Clone, Copy, PartialEq, Eq, PartialOrd, Ord)]
 pub struct Weight {
     value: u32,

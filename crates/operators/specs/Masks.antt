@@ -1,9 +1,10 @@
 -- What a mask keeps, and its laws.
-use Rattle.std.specs.Prelude.{◌≡◌, ℕ, zero, suc, ◌-◌, ◌<◌, ◌≤◌, Bool, true, false, cond, List, [], ◌∷◌, length, Some, None, Option, slice_index, refl}
-use Rattle.std.proofs.Common.{sym, ap, subst, ⊎_elim, arith, length-append}
+use Rattle.std.specs.Prelude.{◌≡◌, ℕ, zero, suc, ◌+◌, ◌-◌, ◌<◌, ◌≤◌, Bool, true, false, cond, List, [], ◌∷◌, ◌++◌, length, Some, None, Option, slice_index, refl}
+use Rattle.std.proofs.Common.{sym, ap, ◌∙◌, subst, ⊎_elim, append_assoc, arith, add-one, length-append}
+use Rattle.std.specs.List.{slice_get}
 use Rattle.std.proofs.lemmas.List.{get_or_append_left, get_or-append_right}
 use Rattle.std.proofs.lemmas.Option.{slice_get-get_or, slice_get_past}
-use Rattle.std.proofs.lemmas.Bool.{cases_lt}
+use Rattle.std.proofs.lemmas.Bool.{cases_eq, cases_lt}
 use Rattle.operators.specs.Bands.{mark, most_arguments, argument, SetMeaning, SetLaws}
 use Rattle.operators.specs.Names.{Name, NameLaws}
 use Rattle.operators.specs.Mask.{set_at, kept, behind, arity_at, band_at, name_at, masked, mask_names}
@@ -16,6 +17,32 @@ pub length_kept : (bits n : ℕ) → length (kept bits n) ≤ n
 length_kept bits zero = omega arith
 length_kept bits (suc n) =
     simp length-append (omega (arith, length_kept bits n, one_or_none (set_at bits n) n))
+
+length_one : (b : Bool) (n : ℕ) → length (cond b (n ∷ []) []) ≡ cond b 1 0
+length_one true n = refl
+length_one false n = refl
+
+-- one operator more
+pub length_kept_more : (bits n : ℕ) → length (kept bits (n + 1)) ≡ length (kept bits n) + cond (set_at bits n) 1 0
+length_kept_more bits n = rw (add-one n, length-append, length_one (set_at bits n) n)
+
+-- what stands before an operator that is kept, and after it
+kept_split : (bits i n : ℕ) → i < n → set_at bits i ≡ true → (rest : List ℕ) × (kept bits n ≡ kept bits i ++ (i ∷ rest))
+kept_split bits i zero h e = absurd (omega arith)
+kept_split bits i (suc n) h e =
+    ⊎_elim
+    (λ same. ([], rw (same) (rw same at (ap (λ b. kept bits i ++ cond b (i ∷ []) []) e))))
+    (λ other. let r = kept_split bits i n (omega arith) e in
+    (r.0 ++ cond (set_at bits n) (n ∷ []) [], ap (λ xs. xs ++ cond (set_at bits n) (n ∷ []) []) r.1 ∙ append_assoc (kept bits i) (i ∷ r.0) (cond (set_at bits n) (n ∷ []) [])))
+    (cases_eq i n)
+
+nth_seam : (xs ys : List ℕ) (y : ℕ) → slice_get (xs ++ (y ∷ ys)) (length xs) ≡ Some y
+nth_seam [] ys y = refl
+nth_seam (x ∷ xs) ys y = nth_seam xs ys y
+
+pub kept_at : (bits i n : ℕ) → i < n → set_at bits i ≡ true → slice_get (kept bits n) (length (kept bits i)) ≡ Some i
+kept_at bits i n h e =
+    let r = kept_split bits i n h e in ap (λ xs. slice_get xs (length (kept bits i))) r.1 ∙ nth_seam (kept bits i) r.0 i
 
 one_below : (b : Bool) (n j : ℕ) → slice_index (cond b (n ∷ []) []) j ≤ n
 one_below true n zero = omega arith

@@ -174,9 +174,6 @@ impl Named for Builtin {
     ghost spelt = { λ s. builtin_spelt };
 
     fn name(&self, op: u8) -> [u8; 4] {
-        match Operator::try_from(op) {
-            Ok(operator) => operator.name(),
-            Err(NotOffered) => NO_NAME,
-        }
+        Operator::try_from(op).map_or(NO_NAME, Operator::name)
     }
 }

@@ -45,6 +45,7 @@ impl<S: OperatorSet> OperatorSet for Mask<S> {
 
     ghost lawful = { λ s. masked_laws (S.OperatorSet.meaning s.set) (S.OperatorSet.lawful s.set) s.bits };
 
+    #[tactic(auto, using(crate::proofs::Kept::kept_filter))]
     fn count(&self) -> u8 {
         ones(self.bits, self.set.count())
     }
@@ -64,6 +65,7 @@ impl<S: Named> Named for Mask<S> {
     ghost spelt = { λ s. masked_spelt (S.OperatorSet.meaning s.set) (S.Named.names s.set) (S.Named.spelt s.set) s.bits };
 
     fn name(&self, op: u8) -> [u8; 4] {
+        // no `map_or`: what its closure gives for a named set the check does not read off
         match self.place(op) {
             Some(k) => self.set.name(k),
             None => NO_NAME,

@@ -24,7 +24,8 @@ pub trait OperatorSet {
     ghost lawful: { (s : Self) → SetLaws (meaning s) };
 }
 
-// The argument at place `i` as an operator sees it: 15 where it is missing or above 15.
+// The argument at place `i` as an operator sees it: 15 where it is missing or above 15. One chain of the library's methods, as in
+// other layers: the function names what this one means.
 pub fn arg(args: &[u8], i: usize) -> u8
     ensures { result ≡ argument args.now i }
 {

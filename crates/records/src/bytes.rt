@@ -1,7 +1,7 @@
 ghost use Rattle.std.specs.Prelude.{◌≡◌, ◌+◌, ◌*◌, ◌^◌, ◌<◌, slice_index};
 ghost use Rattle.records.specs.Bytes.{number_at};
 
-// The byte at a place, 0 past the end.
+// The byte at a place, 0 past the end. One chain of the library's methods, as in other layers: the function names what this one means.
 pub(crate) fn byte(bytes: &[u8], at: usize) -> u8
     ensures { result ≡ slice_index bytes.now at }
 {

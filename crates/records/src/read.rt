@@ -85,8 +85,8 @@ fn all_fit(arity: u8, i: usize, step: Step) -> bool
     fits(0 < arity, i, first) && fits(1 < arity, i, second)
 }
 
-// Refuses a step that is not lawful as step `i`. Set and channel count come apart, here and in what reads records: a law and a finder
-// hold them apart, so a struct of both would be made at each call and taken apart again.
+// Refuses a step that is not lawful as step `i`. Set and channel count come apart, here and in what reads records: `read_record` and
+// `rewrite` are public, and who calls them holds the two as they are.
 fn check_step<S: OperatorSet>(
     step: Step,
     i: usize,

@@ -13,7 +13,7 @@ pub struct ChannelCount {
 }
 
 impl ChannelCount {
-    // By `new`, here and at `Limit`, and no `TryFrom`: its two clauses stand on a method only.
+    // By `new`, here and at `Limit`, which is a public call; a `TryFrom` beside it would say the same twice.
     pub fn new(n: usize) -> Result<ChannelCount, SheetRefusal>
         ensures refused { refused_by sheet_refusal result ≡ channels_refusal n }
         ensures value { IfOk result (λ c. c.value ≡ n) }

@@ -21,7 +21,7 @@ pub fn sound_bands(bands: &[u8]) -> usize
     bands.iter().take_while(|b| sound(**b)).count()
 }
 
-// The bytes of a row taken apart: the wanted band, then the channels' bands.
+// The bytes of a row taken apart: the wanted band, then the channels' bands. What it shares with a reading is `sound_bands`.
 fn parted<'a>(bytes: &'a [u8], channels: u8) -> Result<(u8, &'a [u8]), SheetRefusal>
     ensures { elim result [ Ok p ↦ (judged channels bytes.now ≡ said p.0 p.1.now) × (length p.1.now ≡ channels) | Err e ↦ judged channels bytes.now ≡ refused (sheet_refusal e).0 (sheet_refusal e).1 ] }
 {

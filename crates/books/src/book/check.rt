@@ -1,10 +1,10 @@
-ghost use Rattle.std.specs.Prelude.{◌≡◌, ◌<◌, length};
+ghost use Rattle.std.specs.Prelude.{◌≡◌, ℕ, ◌<◌, Bool, length};
 ghost use Rattle.std.specs.List.{prefix_len};
 ghost use Rattle.operators.specs.Names.{letter};
 ghost use Rattle.books.specs.Layout.{book_length, count_of, tables_at};
 ghost use Rattle.refusals.specs.Numbers.{refused_by};
 ghost use Rattle.books.specs.Numbers.{refusal_of};
-ghost use Rattle.books.specs.Refusal.{book_refusal, bytes_refusal, bad_name, bad_arity, bad_cell, begins_name, all_spaces, used as is_used};
+ghost use Rattle.books.specs.Refusal.{book_refusal, bytes_refusal, first, bad_name, bad_arity, bad_cell, begins_name, all_spaces, used as is_used};
 
 use crate::layout::{BANDS, HEAD_WIDTH, MOST_ENTRIES, NAME_WIDTH, TABLE_WIDTH};
 use crate::refusal::BookRefusal;
@@ -88,20 +88,32 @@ fn wrong_cell(book: &[u8], p: usize) -> bool
     }
 }
 
+// The first place below `n` where a rule holds.
+fn first<F: Fn(usize) -> bool>(n: usize, rule: F) -> Option<usize>
+    requires { (p : ℕ) → p < n → F.pre rule p }
+    ensures { (test : ℕ → Bool) → ((p : ℕ) (told : Bool) → p < n → F.post rule p told → told ≡ test p) → result ≡ first test n }
+{
+    for p in 0..n {
+        if rule(p) {
+            return Some(p);
+        }
+    }
+    None
+}
+
 // Refuses the first name at fault, then the first arity, then the first byte of a table.
 fn check_bytes(book: &[u8]) -> Result<(), BookRefusal>
     requires { length book.now ≡ book_length (count_of book.now) }
     ensures { refused_by refusal_of result ≡ bytes_refusal book.now }
 {
-    // thrice the same but for the rule and the case: a function over the rule would call it in a closure of its own, which then has
-    // to be callable at every number, where the rules need a place of the book
-    if let Some(p) = (0..book.len()).find(|p| wrong_name(book, *p)) {
+    let n = book.len();
+    if let Some(p) = first(n, |p| wrong_name(book, p)) {
         return Err(BookRefusal::Name(p));
     }
-    if let Some(p) = (0..book.len()).find(|p| wrong_arity(book, *p)) {
+    if let Some(p) = first(n, |p| wrong_arity(book, p)) {
         return Err(BookRefusal::Arity(p));
     }
-    if let Some(p) = (0..book.len()).find(|p| wrong_cell(book, *p)) {
+    if let Some(p) = first(n, |p| wrong_cell(book, p)) {
         return Err(BookRefusal::Cell(p));
     }
     Ok(())

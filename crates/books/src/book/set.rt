@@ -18,6 +18,7 @@ impl Entry {
         if self.arity > 0 && a == MARK || self.arity > 1 && b == MARK {
             return MARK;
         }
+        // an arity is a number and no kind: how many arguments there are
         match self.arity {
             0 => self.table[0],
             1 => self.table[a as usize],
@@ -60,6 +61,7 @@ impl Named for Book {
     ghost spelt = { λ s. held_spelt s };
 
     fn name(&self, op: u8) -> [u8; 4] {
+        // no `map_or`: of its closure the check does not find that it gives the name
         match self.get(op) {
             Some(entry) => entry.name,
             None => NO_NAME,

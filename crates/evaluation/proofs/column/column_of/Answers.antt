@@ -1,39 +1,21 @@
-use Rattle.std.proofs.Common.{◌≡◌, List, map, length, get_or, sym, ap, ◌∙◌, arith, length-set, get_or-take, length-take}
-use Rattle.std.proofs.lemmas.List.{length-map, get_or-map}
+use Rattle.std.proofs.Common.{◌≡◌, ℕ, List, map, sym, ap, ◌∙◌, get_or, take, arith, rules}
+use Rattle.std.specs.List.{take-map}
+use Rattle.std.proofs.lemmas.Simd.{map-map}
+use Rattle.operators.specs.Bands.{mark}
 use Rattle.rows.specs.Rows.{StandingRow}
 use Rattle.rows.specs.Read.{row_seen}
 use Rattle.rows.specs.declared.row.Row.{Row}
-use Rattle.formulas.specs.Formula.{band}
-use Rattle.evaluation.specs.Columns.{over}
-use Rattle.evaluation.proofs.Columns.{filled_more, filled_all}
+use Rattle.formulas.specs.Formula.{band, column}
+use Rattle.evaluation.specs.Columns.{over, in_table, table_size}
+use Rattle.evaluation.proofs.Columns.{padded_front, each_of}
 use Rattle.evaluation.proofs.column.column_of.Goals as goal
-
-pub loop-i-preserved : goal.loop-i-preserved
-loop-i-preserved g c =
-    let m = g.S.OperatorSet.meaning c.args.set.now in
-    let n = c.args.channels.value in
-    let rows = c.args.rows.now in
-    let seen : List StandingRow = map (row_seen n) rows in
-    let i = c.loop-i.i in
-    let b = c.band_of.result in
-    let t = c.loop-i-test.true in
-    let long : length c.loop-i.bands ≡ 16 = c.loop-i.invariant.0 in
-    let wide : length seen ≡ length rows = length-map rows (row_seen n) in
-    let within = c.min.ensures in let few = length-take c.min.result c.args.rows.now in
-    let row : Row = c.index-first-i.result in
-    let here : row ≡ get_or rows i row = c.index-first-i.is ∙ get_or-take c.min.result rows i row (omega arith) in
-    let at : get_or seen i (row_seen n row) ≡ row_seen n (get_or rows i row) = get_or-map (row_seen n) rows i row (row_seen n row) (omega arith) in (
-      length-set c.loop-i.bands i b ∙ long,
-      λ v f says. filled_more (over m n v) seen f c.loop-i.bands i b (row_seen n row) (c.loop-i.invariant.1 v f says) (omega arith) (omega arith)
-          (c.band_of.ensures f says ∙ ap (λ r. band m r f) (c.reading.ensures ∙ ap (λ (r : Row). (row_seen n r).bands) here ∙ sym (ap (λ (r : StandingRow). r.bands) at))),
-    )
 
 pub returns : goal.returns
 returns g c v f says =
     let m = g.S.OperatorSet.meaning c.args.set.now in
     let n = c.args.channels.value in
-    let seen : List StandingRow = map (row_seen n) c.args.rows.now in
-    let wide : length seen ≡ length c.args.rows.now = length-map c.args.rows.now (row_seen n) in
-    let t = c.loop-i-test.false in
-    let within = c.min.ensures in let few = length-take c.min.result c.args.rows.now in
-    c.loop-i.invariant.1 v f says ∙ filled_all (over m n v) seen f c.loop-i.i (omega arith)
+    let rows : List Row = c.args.rows.now in
+    let items = c.from_fn.ensures.items in
+    let bands : List ℕ = map (λ (r : Row). band m (row_seen n r).bands f) rows in
+    let each = each_of (λ i b. b ≡ get_or bands i mark) _ (λ i b q k. search rules) c.from_fn.result table_size 0 items.each in
+    padded_front table_size c.from_fn.result bands items.long (λ i l. each i (omega arith) (omega arith)) ∙ ap in_table (take-map _ table_size rows ∙ sym (ap (λ rs. column (over m n v) rs f) (take-map (row_seen n) table_size rows) ∙ map-map (λ (r : StandingRow). band m r.bands f) (row_seen n) (take table_size rows)))

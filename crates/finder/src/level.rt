@@ -53,8 +53,8 @@ impl<S: OperatorSet, M: Measure> Problem<S, M> {
             };
             best = self.lowered(bank, last, best, candidate);
         }
-        // the same loops as in the building of a level, whose labelled ones are a rule of the project: an iterator over the
-        // candidates would be no plainer, as it would count channels, operators and places in fields of its own
+        // the same loops as in the building of a level, whose labelled ones are a rule of the project: a function over what is done
+        // with each candidate would have this one caller, and an iterator would count operators and places in fields of its own
         let places = bank.places.len();
         for op in 0..self.set.count() {
             let arity = self.set.arity(op);

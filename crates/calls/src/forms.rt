@@ -30,7 +30,7 @@ fn hex_more(n: u64, b: &u8) -> Option<u64>
     n.checked_mul(16)?.checked_add(hex_digit(*b)? as u64)
 }
 
-// The number that one to sixteen hexadecimal digits write.
+// The number that one to sixteen hexadecimal digits write. Not `from_str_radix`, which takes capitals too.
 pub(crate) fn bits(word: &[u8]) -> Option<u64>
     ensures { result ≡ bits_of word.now }
 {
@@ -48,7 +48,8 @@ fn decimal_more(n: u8, b: &u8) -> Option<u8>
 }
 
 // The number from 0 to 255 that decimal digits write.
-// Not one with the sheet text's: there the digits are counted, here the value is bounded, and neither program builds on the other.
+// Not one with the sheet text's: there the digits are counted, here the value is bounded, and the two crates share only `refusals` and
+// `rows`, where no text is. Not `parse`, which takes a sign too.
 pub(crate) fn number(word: &[u8]) -> Option<u8>
     ensures { result ≡ number_of word.now }
 {
@@ -58,7 +59,7 @@ pub(crate) fn number(word: &[u8]) -> Option<u8>
     word.iter().try_fold(0, decimal_more)
 }
 
-// The number that decimal digits write, or the greatest there is where it is greater.
+// The number that decimal digits write, or the greatest there is where it is greater; `parse` refuses that.
 pub(crate) fn plain(word: &[u8]) -> Option<usize> {
     if word.is_empty() {
         return None;

@@ -18,7 +18,8 @@ fn reading(row: &Row, channels: ChannelCount) -> &[u8]
     &bands[0..channels.get() as usize]
 }
 
-// The column of the formula that the steps say, over the first sixteen rows: a band for each, and the mark behind them.
+// The column of the formula that the steps say, over the first sixteen rows: a band for each, and the mark behind them. No list: it
+// is a public type, and as many bands count as the caller has rows.
 pub fn column_of<S: OperatorSet>(
     steps: &Steps,
     set: &S,

@@ -57,7 +57,7 @@ pub(crate) fn worth_of<S: OperatorSet, W: Worth>(steps: &Steps, set: &S, worth: 
     ensures { (value : Formula → ℕ) (values : Formulas → List ℕ) → GoesBy (W.rule worth.now) value values → (f : Formula) → StepsSay (S.OperatorSet.meaning set.now) (listed steps.now) f → W.number result ≡ value f }
 {
     let mut values = [worth.absent(); MOST_STEPS];
-    // by index and not by `push`: a list's size has to be bounded, and that of 513 values of any type was not to be shown here
+    // by index and not by `push`: that the size of a list of values of any type is bounded was tried, and did not close
     for (i, step) in steps.as_slice().iter().enumerate() {
         values[i] = step_worth(set, worth, *step, &values);
     }

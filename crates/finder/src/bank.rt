@@ -7,7 +7,7 @@ use formulas::steps::Top;
 use measures::weight::Weight;
 
 // What a formula can be made of: a channel, or an operator over the bank places of its arguments. Places past the arity mean
-// nothing.
+// nothing: a table without a length, since the arity is the set's to say.
 #[derive(Clone, Copy)]
 pub struct Candidate {
     pub(crate) top: Top,

@@ -23,6 +23,7 @@ impl<S: OperatorSet, M: Measure> Problem<S, M> {
         if self.sheet.wants(&column) {
             return true;
         }
+        // the number of a place, taken apart here, is a rule of the project
         match bank.place_of(&column, self.sheet.rows.len()) {
             Some(_) => {}
             None => bank.push(Place {

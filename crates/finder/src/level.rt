@@ -30,6 +30,7 @@ impl<S: OperatorSet, M: Measure> Problem<S, M> {
         }
         if own < best {
             let column = self.column_of(bank, candidate);
+            // a match and no `is_some`: what the look-up promises is of the place that it gives
             match bank.place_of(&column, self.sheet.rows.len()) {
                 Some(_) => best,
                 None => own,

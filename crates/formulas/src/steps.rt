@@ -15,7 +15,8 @@ pub enum Top {
     Operator(u8),
 }
 
-// One part of a formula: its top, and the numbers of its arguments' steps; those past the arity are 0.
+// One part of a formula: its top, and the numbers of its arguments' steps; those past the arity are 0, in a record too, and how many
+// count is the set's to say.
 #[derive(Clone, Copy)]
 pub struct Step {
     pub top: Top,

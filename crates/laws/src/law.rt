@@ -66,19 +66,18 @@ impl<S: OperatorSet> Law<S> {
         ensures filled { IfOk result (λ b. AnswersRecord (S.OperatorSet.meaning self.now.set) self.now.channels.value self.now.steps reading.now b) }
     {
         check_reading(reading, self.channels.get())?;
-        match &self.steps {
-            None => Ok(MARK),
-            Some(steps) => Ok(band_of(steps, &self.set, reading)),
-        }
+        Ok(
+            self.steps
+                .as_ref()
+                .map_or(MARK, |steps| band_of(steps, &self.set, reading)),
+        )
     }
 
     // Writes the record of the law's steps into the front of the buffer: refused without a formula, then for want of room.
     pub fn record(&self, buffer: &mut [u8]) -> Result<usize, FirmwareRefusal>
         ensures { Recorded self.now.steps buffer.old buffer.new result }
     {
-        match &self.steps {
-            None => Err(FirmwareRefusal::NotFound),
-            Some(steps) => write_record(steps, buffer),
-        }
+        let steps = self.steps.as_ref().ok_or(FirmwareRefusal::NotFound)?;
+        write_record(steps, buffer)
     }
 }

@@ -30,9 +30,8 @@ pub fn label<'a>(text: &'a [u8], names: &'a [u8], spans: &[Span], top: Top) -> &
 {
     match top {
         Top::Operator(number) => trimmed(cut(names, usize::from(number) * 4, 4)),
-        Top::Channel(number) => match spans.get(usize::from(number)) {
-            Some(span) => cut(text, span.from, span.size),
-            None => &[],
-        },
+        Top::Channel(number) => spans
+            .get(usize::from(number))
+            .map_or(&[], |span| cut(text, span.from, span.size)),
     }
 }

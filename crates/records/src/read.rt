@@ -14,7 +14,8 @@ use operators::set::OperatorSet;
 use refusals::record::RecordRefusal;
 use rows::channels::ChannelCount;
 
-// The bytes of a record, whose number of steps is 1 to 513 and whose length is what that asks for.
+// The bytes of a record, whose number of steps is 1 to 513 and whose length is what that asks for. The number is that of its first
+// two bytes, read once; it is no length of the bytes.
 #[derive(Clone, Copy)]
 struct Record<'a> {
     bytes: &'a [u8],

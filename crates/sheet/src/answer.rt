@@ -21,7 +21,7 @@ pub(crate) fn answer_to(heap: Global, text: &[u8]) -> Result<String, AllocError>
             MeasureKind::Depth => searched(heap, text, &sheet, Depth),
         },
         Err(ParseError::Refused(fault)) => format!(in heap; "{fault}\n"),
-        // made by hand, since the parser's `Memory` holds no `AllocError`: its contract says no more than that memory was wanting
+        // made by hand: `ParseError` is public, and its `Memory` holds no `AllocError`
         Err(ParseError::Memory) => Err(AllocError),
     }
 }

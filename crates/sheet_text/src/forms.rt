@@ -18,7 +18,8 @@ pub(crate) fn is_name(word: &[u8]) -> bool
 }
 
 // A number of 32 bits with one digit more.
-// Not one with the calls' `decimal_more`: there the bound of 255 is part of what a number is, and neither program builds on the other.
+// Not one with the calls' `decimal_more`: there the bound of 255 is part of what a number is, and the two crates share only
+// `refusals` and `rows`, where no text is.
 fn digit_more(n: u32, b: &u8) -> Option<u32>
     ensures { result ≡ decimal_next n b.now }
 {

@@ -70,6 +70,7 @@ impl<'a> Parser<'a> {
     {
         let fault = Fault::new(TextRefusal::Word, head);
         let part = self.word_in_line().ok_or(fault)?;
+        // a match and no `is_some`: the clause speaks of the word that stands there
         match self.word_in_line() {
             Some(_) => Err(fault),
             None => Ok(part),

@@ -93,6 +93,7 @@ fn first<F: Fn(usize) -> bool>(n: usize, rule: F) -> Option<usize>
     requires { (p : ℕ) → p < n → F.pre rule p }
     ensures { (test : ℕ → Bool) → ((p : ℕ) (told : Bool) → p < n → F.post rule p told → told ≡ test p) → result ≡ first test n }
 {
+    // by hand: with `find` the checker asked that the rule can be called at every number, and the proof did not close
     for p in 0..n {
         if rule(p) {
             return Some(p);

@@ -5,6 +5,7 @@ ghost use Rattle.fixed.specs.Listed.{listed};
 use fixed::list::FixedList;
 use formulas::steps::Top;
 use measures::weight::Weight;
+use operators::set::MARK;
 
 // What a formula can be made of: a channel, or an operator over the bank places of its arguments. Places past the arity mean
 // nothing: a table without a length, since the arity is the set's to say.
@@ -31,7 +32,7 @@ impl Column {
         ensures { (j : ℕ) → j < n → F.post band j (slice_index_or result.bands j 15) }
     {
         // by index: with `array::from_fn` the checker asked that the rule can be called at every number, and the proof did not close
-        let mut bands = [15; 16];
+        let mut bands = [MARK; 16];
         for j in 0..n {
             bands[j] = band(j);
         }
@@ -65,7 +66,7 @@ impl Default for Place {
                 top: Top::Channel(0),
                 args: [0, 0],
             },
-            column: Column { bands: [15; 16] },
+            column: Column { bands: [MARK; 16] },
             weight: Weight::one(),
         }
     }

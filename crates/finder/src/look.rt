@@ -5,6 +5,7 @@ ghost use Rattle.finder.specs.View.{bank_seen, held_seen, place_seen};
 
 use crate::bank::{Bank, Column, Place};
 use measures::weight::Weight;
+use operators::set::MARK;
 
 impl Bank {
     // The column at the place `i`, all marks where it is not filled.
@@ -14,7 +15,7 @@ impl Bank {
         self.places
             .as_slice()
             .get(i)
-            .map_or(Column { bands: [15; 16] }, |place| place.column)
+            .map_or(Column { bands: [MARK; 16] }, |place| place.column)
     }
 
     // The weight at the place `i`, 1 where it is not filled.

@@ -5,6 +5,7 @@ ghost use Rattle.finder.specs.View.{rows_seen};
 
 use crate::bank::Column;
 use crate::sheet::Sheet;
+use operators::set::MARK;
 use rows::row::Row;
 
 // Whether the bands are those that the rows want, as many on both sides.
@@ -26,7 +27,7 @@ impl Sheet {
         if channel < self.channels.get() {
             self.rows.as_slice()[j].bands[channel as usize]
         } else {
-            15
+            MARK
         }
     }
 

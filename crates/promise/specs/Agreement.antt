@@ -7,6 +7,10 @@ use Rattle.search.specs.Machine.{State}
 use Rattle.search.specs.Machine as search
 use Rattle.promise.specs.Machine.{step, Move}
 
+-- how many of the six calls the search's own machine has: add and advance
+abbrev pub shared_calls : ℕ
+shared_calls = 2
+
 -- the answer to a change, by its refusal if there is one
 abbrev pub change_told : Option (ℕ × ℕ) → Reply Done
 change_told None = accepted done

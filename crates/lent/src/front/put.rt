@@ -1,3 +1,4 @@
+ghost use Rattle.std.specs.Prelude.{◌≡◌, ◌+◌, ◌<◌, length};
 ghost use Rattle.lent.specs.Puts.{Behind};
 
 use crate::front::Front;
@@ -5,7 +6,8 @@ use crate::front::Front;
 impl<'a> Front<'a> {
     // Writes the bytes behind what is written, where there is room; else nothing is written.
     pub fn put(&mut self, bytes: &[u8])
-        ensures { Behind self.old self.new bytes.now }
+        ensures written { Behind self.old self.new bytes.now }
+        ensures full { length self.old.out.now < self.old.at + length bytes.now → (self.new.out.now ≡ self.old.out.now) × (self.new.at ≡ self.old.at) }
     {
         if self.at > self.out.len() || bytes.len() > self.out.len() - self.at {
             return;

@@ -18,7 +18,7 @@ returns-in_default t c f d = absurd (omega (arith, within c.args.pieces.now c.ar
 pub returns-then-piece-eq0 : goal.returns-then-piece-eq0
 returns-then-piece-eq0 t c f d =
     let w = (goal.at.returns-then-piece-eq0 t c).In-Some in
-    subst (Behind c.args.front.now c.put.new.self) (as_leaf c.args.pieces.now c.args.step c.in-Some.piece.now (is t w) f d c.if-piece-eq0.true) c.put.ensures
+    subst (Behind c.args.front.now c.put.new.self) (as_leaf c.args.pieces.now c.args.step c.in-Some.piece.now (is t w) f d c.if-piece-eq0.true) c.put.ensures.written
 
 pub returns-then-first-step : goal.returns-then-first-step
 returns-then-first-step t c f d =
@@ -30,9 +30,9 @@ returns-then-piece-eq1 t c f d =
     let w = (goal.at.returns-then-piece-eq1 t c).In-Some in
     let a = as_one c.args.pieces.now c.args.step c.in-Some.piece.now (is t w) _ _ (pair_of c.in-Some.piece.now.args (search rules)) f d c.if-piece-eq1.true in
     subst (Behind c.args.front.now c.put-then-piece-eq1.new.self) a.2
-    (then _ _ _ _ _ c.put.ensures
-    (then _ _ _ (40 ∷ []) _ c.put-2.ensures
-    (then _ _ _ _ _ (c.put_formula.ensures a.0 a.1) c.put-then-piece-eq1.ensures)))
+    (then _ _ _ _ _ c.put.ensures.written
+    (then _ _ _ (40 ∷ []) _ c.put-2.ensures.written
+    (then _ _ _ _ _ (c.put_formula.ensures a.0 a.1) c.put-then-piece-eq1.ensures.written)))
 
 pub returns-then-second-step : goal.returns-then-second-step
 returns-then-second-step t c f d =
@@ -44,8 +44,8 @@ returns t c f d =
     let w = (goal.at.returns t c).In-Some in
     let a = as_two c.args.pieces.now c.args.step c.in-Some.piece.now (is t w) _ _ (pair_of c.in-Some.piece.now.args (search rules)) f d c.if-piece-eq0.false c.if-piece-eq1.false in
     subst (Behind c.args.front.now c.put-4.new.self) a.4
-    (then _ _ _ _ _ c.put.ensures
-    (then _ _ _ (40 ∷ []) _ c.put-2.ensures
+    (then _ _ _ _ _ c.put.ensures.written
+    (then _ _ _ (40 ∷ []) _ c.put-2.ensures.written
     (then _ _ _ _ _ (c.put_formula.ensures a.0 a.2)
-    (then _ _ _ (44 ∷ []) _ c.put-3.ensures
-    (then _ _ _ _ _ (c.put_formula-2.ensures a.1 a.3) c.put-4.ensures)))))
+    (then _ _ _ (44 ∷ []) _ c.put-3.ensures.written
+    (then _ _ _ _ _ (c.put_formula-2.ensures a.1 a.3) c.put-4.ensures.written)))))

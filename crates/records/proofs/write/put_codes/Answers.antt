@@ -12,7 +12,7 @@ loop-step-preserved c =
     let i = c.loop-step.step-index in
     subst (Behind f c.put.new.self) (codes_more xs i _ c.loop-step-test.true)
     (subst (λ x. Behind f c.put.new.self (map step_code (take i xs) ++ x ∷ [])) c.from-code.ensures
-    (then f c.loop-step.front c.put.new.self (map step_code (take i xs)) (c.from-code.result.0 ∷ []) c.loop-step.invariant c.put.ensures))
+    (then f c.loop-step.front c.put.new.self (map step_code (take i xs)) (c.from-code.result.0 ∷ []) c.loop-step.invariant c.put.ensures.written))
 
 pub returns : goal.returns
 returns c =

@@ -8,5 +8,5 @@ use Rattle.records.proofs.write.put_field.Goals as goal
 pub returns : goal.returns
 returns c =
     then c.args.front.now c.put.new.self c.put-2.new.self (two_bytes (argument_of c.args.step 0)) (two_bytes (argument_of c.args.step 1))
-    (subst (Behind c.args.front.now c.put.new.self) c.two_bytes.ensures c.put.ensures)
-    (subst (Behind c.put.new.self c.put-2.new.self) c.two_bytes-2.ensures c.put-2.ensures)
+    (subst (Behind c.args.front.now c.put.new.self) c.two_bytes.ensures c.put.ensures.written)
+    (subst (Behind c.put.new.self c.put-2.new.self) c.two_bytes-2.ensures c.put-2.ensures.written)

@@ -10,5 +10,5 @@ returns c =
     let L = c.args.steps.now in
     let f = c.args.front.now in
     then f c.put.new.self c.put_fields.new.front (two_bytes (length L)) (map step_code L ++ flat_map field_of L)
-    (subst (Behind f c.put.new.self) c.two_bytes.ensures c.put.ensures)
+    (subst (Behind f c.put.new.self) c.two_bytes.ensures c.put.ensures.written)
     (then c.put.new.self c.put_codes.new.front c.put_fields.new.front (map step_code L) (flat_map field_of L) c.put_codes.ensures c.put_fields.ensures)

@@ -22,7 +22,7 @@ hex_within n (b ∷ bs) = after (hex_value b) (λ d. cond (ltb (n * 16 + d) (2 ^
 pub hex_within_next : (n b : ℕ) (w : Option ℕ) (bs : List ℕ) → w ≡ hex_next n b → hex_within n (b ∷ bs) ≡ after w (λ m. hex_within m bs)
 hex_within_next n b w bs e = after_digit (λ d. ltb (n * 16 + d) (2 ^ 64)) (λ d. n * 16 + d) (λ m. hex_within m bs) (hex_value b) ∙ ap (λ o. after o (λ m. hex_within m bs)) (sym e)
 
-hex_most : (b d : ℕ) → hex_value b ≡ Some d → d < 16
+pub hex_most : (b d : ℕ) → Some d ≡ hex_value b → d < 16
 hex_most b d e = grind (arith, nat_tests)
 
 -- with k digits left the number stays below 2 ^ 64 where it is below 2 ^ 64 / 16 ^ k
@@ -38,7 +38,7 @@ hex_within_is (b ∷ bs) n h =
     elim (hex_value b) as (λ o. hex_value b ≡ o → after o (λ d. cond (ltb (n * 16 + d) (2 ^ 64)) (hex_within (n * 16 + d) bs) None) ≡ after o (λ d. hex_after (n * 16 + d) bs)) [
       | None ↦ λ e. refl
       | Some d ↦ λ e.
-          let r : (n * 16 + d + 1) * 16 ^ length bs ≤ 2 ^ 64 = room_more n d (16 ^ length bs) (hex_most b d e) (subst (λ w. (n + 1) * w ≤ 2 ^ 64) (pow-suc 16 (length bs)) h) in
+          let r : (n * 16 + d + 1) * 16 ^ length bs ≤ 2 ^ 64 = room_more n d (16 ^ length bs) (hex_most b d (sym e)) (subst (λ w. (n + 1) * w ≤ 2 ^ 64) (pow-suc 16 (length bs)) h) in
           let p : 0 < 16 ^ length bs = pow-le-pow_right (lit< tt) {i = 0} {j = length bs} (omega arith) in
           rw (lt-ltb (n * 16 + d) (2 ^ 64) (room_below (n * 16 + d) (16 ^ length bs) p r)) (hex_within_is bs (n * 16 + d) r)
     ] refl

@@ -25,6 +25,15 @@ impl fmt::Display for Letters {
     }
 }
 
+// The two hexadecimal digits of a byte.
+fn digits(byte: u8) -> [u8; 2] {
+    let digits = b"0123456789abcdef";
+    [digits[(byte / 16) as usize], digits[(byte % 16) as usize]]
+}
+
+// So many bytes of a buffer are printed at once.
+const PIECE: usize = 256;
+
 // A buffer in hexadecimal, `-` where it has no bytes.
 #[derive(Drop)]
 pub(crate) struct Hex<'a>(pub &'a [u8]);
@@ -34,8 +43,14 @@ impl<'a> fmt::Display for Hex<'a> {
         if self.0.is_empty() {
             return f.write_str("-");
         }
-        for byte in self.0 {
-            write!(f, "{byte:02x}")?;
+        // in pieces: to print each byte by a format of its own took five times as long
+        let mut text = [[0; 2]; PIECE];
+        for piece in self.0.chunks(PIECE) {
+            for (pair, byte) in text.iter_mut().zip(piece) {
+                *pair = digits(*byte);
+            }
+            let pairs = text[..piece.len().min(PIECE)].as_flattened();
+            f.write_str(str::from_utf8(pairs).map_err(|_| fmt::Error)?)?;
         }
         Ok(())
     }

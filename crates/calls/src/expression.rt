@@ -120,6 +120,7 @@ pub(crate) fn set_of(heap: Global, words: &[&[u8]]) -> Result<AnySet, CallError>
         [b"builtin"] => Ok(AnySet::Builtin(Builtin)),
         [b"book", hex] => Ok(AnySet::Book(book_of(heap, hex)?)),
         [b"mask", digits, below @ ..] => masked(heap, bits_of(digits)?, below),
-        _ => paired(heap, words),
+        [b"pair", ..] => paired(heap, words),
+        _ => Err(LineError::Unknown.into()),
     }
 }

@@ -110,8 +110,12 @@ pub(crate) fn answers_to(heap: Global, text: &[u8]) -> Result<String, AllocError
     let mut session = Session::new(heap);
     let mut answers = String::new(heap);
     for line in text.split(|b| *b == b'\n') {
+        // before its words are looked for, which costs more
+        if line.is_empty() || line.starts_with(b"#") {
+            continue;
+        }
         let words = words_of(heap, line)?;
-        if words.is_empty() || line.starts_with(b"#") {
+        if words.is_empty() {
             continue;
         }
         match session.call(&words) {

@@ -55,10 +55,10 @@ module _ (m : SetMeaning) (rule : Rule) (value : Formula → ℕ) (values : Form
       below k i h q = elim (cases_lt k i) [ inl l ↦ l | inr l ↦ absurd (q (omega arith)) ]
 
 -- the value of an operator over as many of the arguments' values as it takes
-pub operator-value : (m : SetMeaning) (rule : Rule) (d : ℕ) (earlier : List ℕ) (s : Step) (op n : ℕ) (args : List ℕ) → s.top ≡ Operator op → m.arity op ≤ most_arguments → n ≡ m.arity op → args ≡ map (λ j. get_or earlier (argument_of s j) d) (range_with_len 0 most_arguments) → rule.operator op (take n args) ≡ step_value m rule d earlier s
-operator-value m rule d earlier s op n args top narrow arity are =
+pub operator-value : (m : SetMeaning) (rule : Rule) (d : ℕ) (earlier : List ℕ) (s : Step) (op : ℕ) (args : List ℕ) → s.top ≡ Operator op → m.arity op ≤ most_arguments → args ≡ map (λ j. get_or earlier (argument_of s j) d) (range_with_len 0 most_arguments) → rule.operator op (take (m.arity op) args) ≡ step_value m rule d earlier s
+operator-value m rule d earlier s op args top narrow are =
     let given : ℕ → List ℕ = λ k. map (λ j. get_or earlier (argument_of s j) d) (range_with_len 0 k) in
-    ap₂ (λ (k : ℕ) (xs : List ℕ). rule.operator op (take k xs)) arity are
+    ap (λ (xs : List ℕ). rule.operator op (take (m.arity op) xs)) are
     ∙ ap (rule.operator op) (take-map-range_with_len (λ j. get_or earlier (argument_of s j) d) 0 most_arguments (m.arity op) narrow)
     ∙ sym (ap (λ (t : Top). top_value rule (given (top_arity m t)) t) top)
 

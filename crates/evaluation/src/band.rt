@@ -22,6 +22,10 @@ impl<'a, S: OperatorSet> Worth for Bands<'a, S> {
 
     ghost number = { λ band. band };
 
+    ghost meaning = { λ w. S.OperatorSet.meaning w.set.now };
+
+    ghost lawful = { λ w. S.OperatorSet.lawful w.set.now };
+
     ghost rule = { λ w. band_rule (S.OperatorSet.meaning w.set.now) w.reading.now };
 
     ghost absent = { mark };
@@ -34,7 +38,8 @@ impl<'a, S: OperatorSet> Worth for Bands<'a, S> {
         at(self.reading, channel as usize, MARK)
     }
 
-    fn operator(&self, op: u8, args: &[u8]) -> u8 {
+    // the set itself passes over arguments past the arity
+    fn operator(&self, op: u8, args: &[u8; 2]) -> u8 {
         self.set.band(op, args)
     }
 }
@@ -43,5 +48,5 @@ impl<'a, S: OperatorSet> Worth for Bands<'a, S> {
 pub fn band_of<S: OperatorSet>(steps: &Steps, set: &S, reading: &[u8]) -> u8
     ensures { (f : Formula) → StepsSay (S.OperatorSet.meaning set.now) (listed steps.now) f → result ≡ band (S.OperatorSet.meaning set.now) reading.now f }
 {
-    worth_of(steps, set, &Bands { set, reading })
+    worth_of(steps, &Bands { set, reading })
 }

@@ -11,16 +11,21 @@ use measures::measure::Measure;
 use measures::weight::Weight;
 use operators::set::OperatorSet;
 
-// Weights under a measure.
+// Weights under a measure; the set gives the operators' arities.
 #[derive(Drop)]
-struct Weights<'a, M> {
+struct Weights<'a, S, M> {
+    set: &'a S,
     measure: &'a M,
 }
 
-impl<'a, M: Measure> Worth for Weights<'a, M> {
+impl<'a, S: OperatorSet, M: Measure> Worth for Weights<'a, S, M> {
     type Value = Weight;
 
     ghost number = { λ (w : StoredWeight). w.value };
+
+    ghost meaning = { λ w. S.OperatorSet.meaning w.set.now };
+
+    ghost lawful = { λ w. S.OperatorSet.lawful w.set.now };
 
     ghost rule = { λ w. weight_rule (M.Measure.meaning w.measure.now) };
 
@@ -34,14 +39,15 @@ impl<'a, M: Measure> Worth for Weights<'a, M> {
         self.measure.channel(channel)
     }
 
-    fn operator(&self, op: u8, args: &[Weight]) -> Weight {
-        self.measure.operator(op, args)
+    fn operator(&self, op: u8, args: &[Weight; 2]) -> Weight {
+        let n = self.set.arity(op) as usize;
+        self.measure.operator(op, &args[..n])
     }
 }
 
-// The weight of the formula that the steps say; the set gives the operators' arities.
+// The weight of the formula that the steps say.
 pub fn weight_of<S: OperatorSet, M: Measure>(steps: &Steps, set: &S, measure: &M) -> Weight
     ensures { (f : Formula) → StepsSay (S.OperatorSet.meaning set.now) (listed steps.now) f → result.value ≡ weighed (M.Measure.meaning measure.now) f }
 {
-    worth_of(steps, set, &Weights { measure })
+    worth_of(steps, &Weights { set, measure })
 }

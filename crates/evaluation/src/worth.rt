@@ -1,5 +1,6 @@
-ghost use Rattle.std.specs.Prelude.{◌≡◌, ℕ, ◌*◌, ◌^◌, ◌<◌, List, map};
+ghost use Rattle.std.specs.Prelude.{◌≡◌, ℕ, ◌*◌, ◌^◌, ◌<◌, List, map, take};
 ghost use Rattle.std.specs.Mem.{type_size};
+ghost use Rattle.operators.specs.Bands.{SetMeaning, SetLaws};
 ghost use Rattle.formulas.specs.Formula.{Formula, Formulas};
 ghost use Rattle.formulas.specs.Says.{StepsSay};
 ghost use Rattle.formulas.specs.Steps.{listed};
@@ -7,7 +8,6 @@ ghost use Rattle.evaluation.specs.Values.{Rule, GoesBy, step_value};
 
 use crate::table::{arguments, at};
 use formulas::steps::{MOST_STEPS, Step, Steps, Top};
-use operators::set::OperatorSet;
 
 // What each channel is worth, and each operator over what its arguments are worth, as bands at a reading or weights under a measure.
 pub(crate) trait Worth {
@@ -15,6 +15,9 @@ pub(crate) trait Worth {
 
     // The plain number of a value.
     ghost number: { Self.Value → ℕ };
+
+    // What the set of the operators means.
+    ghost meaning: { Self → SetMeaning };
 
     ghost rule: { Self → Rule };
 
@@ -27,39 +30,33 @@ pub(crate) trait Worth {
     fn channel(&self, channel: u8) -> Self::Value
         ensures { number result ≡ (rule self.now).channel channel };
 
-    fn operator(&self, op: u8, args: &[Self::Value]) -> Self::Value
-        ensures { number result ≡ (rule self.now).operator op (map number args.now) };
+    // Over as many of two arguments as the operator takes. Who works it out asks for the arity only where it has to know it.
+    fn operator(&self, op: u8, args: &[Self::Value; 2]) -> Self::Value
+        ensures { number result ≡ (rule self.now).operator op (take ((meaning self.now).arity op) (map number args.now)) };
+
+    ghost lawful: { (w : Self) → SetLaws (meaning w) };
 }
 
 // What a step is worth, from what the earlier steps are.
-fn step_worth<S: OperatorSet, W: Worth>(
-    set: &S,
-    worth: &W,
-    step: Step,
-    earlier: &[W::Value],
-) -> W::Value
+fn step_worth<W: Worth>(worth: &W, step: Step, earlier: &[W::Value]) -> W::Value
     requires { 513 * type_size W.Value.row < 2 ^ 63 }
-    ensures { W.number result ≡ step_value (S.OperatorSet.meaning set.now) (W.rule worth.now) W.absent (map W.number earlier.now) step }
+    ensures { W.number result ≡ step_value (W.meaning worth.now) (W.rule worth.now) W.absent (map W.number earlier.now) step }
 {
     match step.top {
         Top::Channel(channel) => worth.channel(channel),
-        Top::Operator(op) => {
-            let args = arguments(earlier, step, worth.absent());
-            let n = set.arity(op) as usize;
-            worth.operator(op, &args[..n])
-        }
+        Top::Operator(op) => worth.operator(op, &arguments(earlier, step, worth.absent())),
     }
 }
 
-// What the formula that the steps say is worth; the set gives the operators' arities.
-pub(crate) fn worth_of<S: OperatorSet, W: Worth>(steps: &Steps, set: &S, worth: &W) -> W::Value
+// What the formula that the steps say is worth.
+pub(crate) fn worth_of<W: Worth>(steps: &Steps, worth: &W) -> W::Value
     requires { 513 * type_size W.Value.row < 2 ^ 63 }
-    ensures { (value : Formula → ℕ) (values : Formulas → List ℕ) → GoesBy (W.rule worth.now) value values → (f : Formula) → StepsSay (S.OperatorSet.meaning set.now) (listed steps.now) f → W.number result ≡ value f }
+    ensures { (value : Formula → ℕ) (values : Formulas → List ℕ) → GoesBy (W.rule worth.now) value values → (f : Formula) → StepsSay (W.meaning worth.now) (listed steps.now) f → W.number result ≡ value f }
 {
     let mut values = [worth.absent(); MOST_STEPS];
     // by index and not by `push`: that the size of a list of values of any type is bounded was tried, and did not close
     for (i, step) in steps.as_slice().iter().enumerate() {
-        values[i] = step_worth(set, worth, *step, &values);
+        values[i] = step_worth(worth, *step, &values);
     }
     at(&values, steps.len().saturating_sub(1), worth.absent())
 }

@@ -1,4 +1,5 @@
-ghost use Rattle.std.specs.Prelude.{◌≡◌, ℕ, List};
+ghost use Rattle.std.specs.Prelude.{◌≡◌, ℕ, ◌+◌, ◌≤◌, min, List};
+ghost use Rattle.operators.specs.Bands.{most_operators};
 ghost use Rattle.operators.specs.Pair.{paired, pair_names};
 ghost use Rattle.operators.specs.Sides.{side_of};
 ghost use Rattle.operators.specs.Pairs.{paired_laws, paired_spelt};
@@ -20,6 +21,14 @@ enum Side {
     Second(u8),
 }
 
+// How many operators a pair of sets of so many offers.
+fn joined(first: u8, second: u8) -> u8
+    requires { (first ≤ most_operators) × (second ≤ most_operators) }
+    ensures { result ≡ min (first + second) most_operators }
+{
+    (first + second).min(64)
+}
+
 impl<A: OperatorSet, B: OperatorSet> Pair<A, B> {
     // Where an operator is, if the pair offers it.
     fn side(&self, op: u8) -> Option<Side>
@@ -28,7 +37,7 @@ impl<A: OperatorSet, B: OperatorSet> Pair<A, B> {
         let first = self.first.count();
         if op < first {
             Some(Side::First(op))
-        } else if op < self.count() {
+        } else if op < joined(first, self.second.count()) {
             Some(Side::Second(op - first))
         } else {
             None
@@ -42,7 +51,7 @@ impl<A: OperatorSet, B: OperatorSet> OperatorSet for Pair<A, B> {
     ghost lawful = { λ p. paired_laws (A.OperatorSet.meaning p.first) (B.OperatorSet.meaning p.second) (A.OperatorSet.lawful p.first) (B.OperatorSet.lawful p.second) };
 
     fn count(&self) -> u8 {
-        (self.first.count() + self.second.count()).min(64)
+        joined(self.first.count(), self.second.count())
     }
 
     fn arity(&self, op: u8) -> u8 {

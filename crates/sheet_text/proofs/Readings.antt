@@ -59,11 +59,12 @@ names_before s t u p names given e h l =
     let k : length s.text.now ≡ length u.text.now = ap (λ text. length text.now) (sym (l.4.0 ∙ named_text s names t h)) in
     subst (AllByRecursion (InText (length u.text.now))) (sym e) (subst (λ n. AllByRecursion (InText n) names) k (named_within s names t h))
 
-formed-names : (s : Lexer) (names : List Span) (t : Lexer) → Named s names t → AllByRecursion (Formed s.text.now) names
-formed-names s names t lines.Named.none = tt
+-- each name that was read is well formed, and the text is the same
+pub formed-names : (s : Lexer) (names : List Span) (t : Lexer) → Named s names t → AllByRecursion (Formed s.text.now) names × (t.text ≡ s.text)
+formed-names s names t lines.Named.none = (tt, refl)
 formed-names s names t (lines.Named.more before a u p h l k) =
     let e : name_at s.text.now (span_of p) ≡ p.bytes.now = ap (λ text. name_at text.now (span_of p)) (sym (named_text s before a h)) ∙ span_reads a t p l in
-    All-push (Formed s.text.now) before (span_of p) (formed-names s before a h) (ap is_name e ∙ named_of s.text.now before p.bytes.now k)
+    (All-push (Formed s.text.now) before (span_of p) (formed-names s before a h).0 (ap is_name e ∙ named_of s.text.now before p.bytes.now k), l.4.0 ∙ (formed-names s before a h).1)
 
 passed_text : (s t : Lexer) → Passed s t → t.text ≡ s.text
 passed_text s t steps.Passed.start = refl
@@ -76,7 +77,7 @@ first-text s u None h = h.2.2.0 ∙ passed_text s h.0 h.1
 pub channels-formed : (s u : Lexer) (names : List Span) → ChannelsLine s u (Ok names) → AllByRecursion (Formed s.text.now) names
 channels-formed s u names h =
     let e : h.0.text ≡ s.text = first-text s h.0 h.2.0 h.2.1 in
-    subst (λ (text : Bor (List ℕ)). AllByRecursion (Formed text.now) names) e (formed-names h.0 names h.3.0 h.3.1)
+    subst (λ (text : Bor (List ℕ)). AllByRecursion (Formed text.now) names) e (formed-names h.0 names h.3.0 h.3.1).0
 
 pub channels-within : (s u : Lexer) (names : List Span) → ChannelsLine s u (Ok names) → AllByRecursion (InText (length s.text.now)) names
 channels-within s u names h =

@@ -10,7 +10,7 @@ use Rattle.evaluation.proofs.worth.worth_of.Goals as goal
 
 pub loop-i-preserved : goal.loop-i-preserved
 loop-i-preserved g c =
-    let m = g.S.OperatorSet.meaning c.args.set.now in
+    let m = g.W.Worth.meaning c.args.worth.now in
     let rule = g.W.Worth.rule c.args.worth.now in
     let number = g.W.Worth.number in
     let d = g.W.Worth.absent in
@@ -33,7 +33,7 @@ loop-i-preserved g c =
 
 pub returns : goal.returns
 returns g c value values goes f says =
-    let m = g.S.OperatorSet.meaning c.args.set.now in
+    let m = g.W.Worth.meaning c.args.worth.now in
     let number = g.W.Worth.number in
     let steps = listed c.args.steps.now in
     let t = c.loop-i-test.false in

@@ -9,4 +9,4 @@ abbrev pub invariant-loop-i : goal.invariant-loop-i
 invariant-loop-i g l =
     (length l.values ≡ 513)
     × ((value : Formula → ℕ) (values : Formulas → List ℕ) → GoesBy (g.W.Worth.rule l.worth) value values
-    → KnownBelow (g.S.OperatorSet.meaning l.set) value (listed l.steps) g.W.Worth.absent l.i (map g.W.Worth.number l.values))
+    → KnownBelow (g.W.Worth.meaning l.worth) value (listed l.steps) g.W.Worth.absent l.i (map g.W.Worth.number l.values))

@@ -1,4 +1,4 @@
-use Rattle.std.proofs.Common.{rules, ◌+◌, ◌-◌, ◌++◌, length, take, refl, ap, ◌∙◌, arith}
+use Rattle.std.proofs.Common.{rules, ℕ, ◌+◌, ◌-◌, List, ◌++◌, length, take, refl, ap, ap₂, ◌∙◌, arith}
 use Rattle.std.proofs.lemmas.Slice.{take-put_mid, drop-put_mid}
 use Rattle.lent.proofs.front.Front.put.Goals as goal
 
@@ -13,8 +13,8 @@ returns-clause-written c =
     record {
       put = λ h. record {
         behind = refl;
-        front = take-put_mid i ((i + n) - i) s ys (i + n) (omega arith) (omega arith) ∙ ap (λ l. take i s ++ l) same;
-        rest = drop-put_mid i ((i + n) - i) s ys (i + n) (omega arith) (omega arith) (omega arith);
+        front = take-put_mid _ _ s ys _ (omega arith) (omega arith) ∙ ap₂ (λ (j : ℕ) (l : List ℕ). take j s ++ l) (omega arith) same;
+        rest = drop-put_mid _ _ s ys _ (omega arith) (omega arith) (omega arith);
       };
       long = search rules;
       same = refl;

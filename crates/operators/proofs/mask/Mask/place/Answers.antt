@@ -13,4 +13,4 @@ returns g c =
     rw (kept_filter c.args.self.now.bits (g.S.OperatorSet.meaning c.args.self.now.set).count)
     (sym (option_map_id c.nth.result)
     ∙ nth_from_yields_List {v = λ (x : ℕ). x} c.nth.result _ c.args.op c.nth.ensures.ran
-    (YieldsList-from_filter _ (set_at c.args.self.now.bits) (YieldsList-from_range 0 c.count.result (g.S.OperatorSet.meaning c.args.self.now.set).count c.filter.ensures.source (omega arith)) c.filter.ensures.closure (λ x b q k. search rules)))
+    (YieldsList-from_filter _ (set_at c.args.self.now.bits) (YieldsList-from_range _ _ (g.S.OperatorSet.meaning c.args.self.now.set).count c.filter.ensures.source (omega arith)) c.filter.ensures.closure (λ x b q k. search rules)))

@@ -27,8 +27,8 @@ impl fmt::Display for Letters {
 
 // The two hexadecimal digits of a byte.
 fn digits(byte: u8) -> [u8; 2] {
-    let digits = b"0123456789abcdef";
-    [digits[(byte / 16) as usize], digits[(byte % 16) as usize]]
+    let table = b"0123456789abcdef";
+    [table[(byte / 16) as usize], table[(byte % 16) as usize]]
 }
 
 // So many bytes of a buffer are printed at once.
@@ -49,6 +49,7 @@ impl<'a> fmt::Display for Hex<'a> {
             for (pair, byte) in text.iter_mut().zip(piece) {
                 *pair = digits(*byte);
             }
+            // a piece has no more than PIECE bytes, and digits are ASCII: neither `min` nor `map_err` ever does anything
             let pairs = text[..piece.len().min(PIECE)].as_flattened();
             f.write_str(str::from_utf8(pairs).map_err(|_| fmt::Error)?)?;
         }

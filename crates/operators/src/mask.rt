@@ -21,7 +21,7 @@ fn bit(bits: u64, i: u8) -> bool
     (bits >> i) % 2 == 1
 }
 
-// How many of the first n bits are 1. By a fold: by `filter` and `count` it took three times as long.
+// How many of the first n bits are 1. By a fold: by `filter` and `count` it took five times the instructions.
 fn ones(bits: u64, n: u8) -> u8
     requires { n ≤ 64 }
     ensures { result ≡ length (filter (set_at bits) (range_with_len 0 n)) }
